@@ -1,0 +1,11 @@
+pub mod Cell
+pub mod Chain
+pub mod Counts
+pub mod Entries
+pub mod Faults
+pub mod Laws
+pub mod Lists
+pub mod Margin
+pub mod Rows
+pub mod Step
+pub mod Vectors
