@@ -1,0 +1,2 @@
+pub mod HeldBodies
+pub mod KnownTransfers
