@@ -1,0 +1,215 @@
+-- Which tokens are accepted.
+use Rattle.std.proofs.Common.{Err, List, None, Ok, Option, Result, Some, [], ap, arith, cond, eqb, false, leb, length, map, negsuc, pos, refl, subst, true, Bool, ℕ, ℤ, ◌*◌, ◌+◌, ◌≡◌, ◌≤◌, ◌∙◌, ◌∷◌, ◌&&◌}
+use Rattle.std.proofs.lemmas.Bool.{eq-eqb, eqb-true, le-leb, leb-true, ne_eqb}
+use Rattle.std.proofs.lemmas.Int.{ints}
+use Rattle.std.proofs.lemmas.List.Elements.{All-from_recursion, recursion_from_All}
+use Rattle.std.specs.Int.RustNames.{unsigned_abs}
+use Rattle.std.specs.List.{AllByRecursion}
+use Rattle.mb_tables.specs.Entries.{IsEntry}
+use Rattle.mb_moves.proofs.EntrySteps.{and_others}
+use Rattle.mb_moves.proofs.SheetSteps.{sheet_with}
+use Rattle.mb_moves.specs.Numerals.{number_of}
+use Rattle.mb_moves.specs.Sheet.{IsSheet, Sheet, entries_after, entry_of, entry_within, sheet_of, size_of, size_within, ◌>>=◌}
+use Rattle.mb_moves.specs.declared.fault.GridFault.{GridFault}
+use Rattle.mb_moves.specs.declared.fault.GridFault.TheVariants.{NoSize, TooFew, TooMany, TooWideNumber}
+
+-- the value of a step that has no fault
+pub bind_ok : {A B : Type 0} (r : Result A GridFault) (f : A → Result B GridFault) (y : B) →
+    (r >>= f) ≡ Ok y →
+    (x : A) × (r ≡ Ok x) × (f x ≡ Ok y)
+bind_ok (Ok x) f y e = (x, refl, e)
+bind_ok (Err fault) f y e = absurd cc
+
+-- a test that has the value on its true side
+test_ok : {A : Type 0} (b : Bool) (x y : A) (fault : GridFault) → cond b (Ok x) (Err fault) ≡ Ok y →
+    (b ≡ true) × (x ≡ y)
+test_ok true x y fault e = (refl, cc)
+test_ok false x y fault e = absurd cc
+
+-- a test that leads on from its false side
+test_on : {A : Type 0} (b : Bool) (fault : GridFault) (r : Result A GridFault) (y : A) →
+    cond b (Err fault) r ≡ Ok y → (b ≡ false) × (r ≡ Ok y)
+test_on true fault r y e = absurd cc
+test_on false fault r y e = (refl, e)
+
+-- a number within the limits of entries
+entry_in : (z : ℤ) → unsigned_abs z ≤ 2147483647 → IsEntry z
+entry_in (pos n) h = (omega (arith, ints), omega (arith, ints))
+entry_in (negsuc n) h = (omega (arith, ints), omega (arith, ints))
+
+-- and back
+pub in_entry : (z : ℤ) → IsEntry z → unsigned_abs z ≤ 2147483647
+in_entry (pos n) h = let l = h.1 in omega (arith, ints)
+in_entry (negsuc n) h = let l = h.0 in omega (arith, ints)
+
+-- a number that is an entry
+entry_taken : (place : ℕ) (number : Option ℤ) (z : ℤ) → entry_within place number ≡ Ok z →
+    (number ≡ Some z) × IsEntry z
+entry_taken place None z e = absurd cc
+entry_taken place (Some y) z e =
+    let t = test_ok (leb (unsigned_abs y) 2147483647) y z (TooWideNumber place) e in
+    (ap Some t.1, subst IsEntry t.1 (entry_in y (leb-true _ _ t.0)))
+
+-- and back: it is taken as one
+entry_given : (place : ℕ) (number : Option ℤ) (z : ℤ) → number ≡ Some z → IsEntry z →
+    entry_within place number ≡ Ok z
+entry_given place number z e h =
+    ap (entry_within place) e
+    ∙ ap (λ b. cond b (Ok z) (Err (TooWideNumber place))) (le-leb _ _ (in_entry z h))
+
+-- what tokens that are all entries say, from so many found on
+abbrev TakesAll : ℕ → ℕ → List (List ℕ) → List ℤ → Type 0
+TakesAll wanted found tokens zs =
+    (map number_of tokens ≡ map Some zs) × (found + length zs ≡ wanted) × AllByRecursion IsEntry zs
+
+-- tokens that are all entries
+pub entries_taken : (wanted found : ℕ) (tokens : List (List ℕ)) (zs : List ℤ) →
+    entries_after wanted found tokens ≡ Ok zs →
+    (map number_of tokens ≡ map Some zs) × (found + length zs ≡ wanted) × AllByRecursion IsEntry zs
+unfolding entries_after
+entries_taken wanted found [] zs e =
+    let t = test_ok (eqb found wanted) [] zs (TooFew found wanted) e in
+    subst (TakesAll wanted found []) t.1 (refl, omega (arith, eqb-true found wanted t.0), tt)
+entries_taken wanted found (token ∷ others) zs e =
+    let on = and_others wanted (found + 1) others in
+    let read = entry_of (found + 3) token in
+    let t = test_on (eqb found wanted) (TooMany wanted) (read >>= on) zs e in
+    let a = bind_ok read on zs t.1 in
+    let b = bind_ok (entries_after wanted (found + 1) others) (λ entries. Ok (a.0 ∷ entries)) zs
+    a.2 in
+    let first = entry_taken (found + 3) (number_of token) a.0 a.1 in
+    let rest = entries_taken wanted (found + 1) others b.0 b.1 in
+    let is : (a.0 ∷ b.0) ≡ zs = cc in
+    subst (TakesAll wanted found (token ∷ others)) is (
+      ap (λ number. number ∷ map number_of others) first.0
+          ∙ ap (λ numbers. Some a.0 ∷ numbers) rest.0,
+      omega (arith, rest.1),
+      (first.1, rest.2),
+    )
+
+-- and so many entries are taken
+pub entries_given : (wanted found : ℕ) (tokens : List (List ℕ)) (zs : List ℤ) →
+    map number_of tokens ≡ map Some zs → found + length zs ≡ wanted → AllByRecursion IsEntry zs →
+    entries_after wanted found tokens ≡ Ok zs
+unfolding entries_after
+entries_given wanted found [] [] e n h =
+    ap (λ b. cond b (Ok []) (Err (TooFew found wanted))) (eq-eqb found wanted (omega arith))
+entries_given wanted found [] (z ∷ zs) e n h = absurd cc
+entries_given wanted found (token ∷ others) [] e n h = absurd cc
+entries_given wanted found (token ∷ others) (z ∷ zs) e n h =
+    let head : number_of token ≡ Some z = cc in
+    let tail : map number_of others ≡ map Some zs = cc in
+    let rest = entries_given wanted (found + 1) others zs tail (omega arith) h.1 in
+    let on = and_others wanted (found + 1) others in
+    ap (λ b. cond b (Err (TooMany wanted)) (entry_of (found + 3) token >>= on))
+    (ne_eqb found wanted (λ same. omega arith))
+    ∙ ap (λ (r : Result ℤ GridFault). r >>= on)
+    (entry_given (found + 3) (number_of token) z head h.0)
+    ∙ ap (λ (r : Result (List ℤ) GridFault). r >>= λ entries. Ok (z ∷ entries)) rest
+
+-- the two parts of a test
+and_parts : (a b : Bool) → (a && b) ≡ true → (a ≡ true) × (b ≡ true)
+and_parts true b e = (refl, e)
+and_parts false b e = absurd cc
+
+-- and the test from its parts
+both_true : (a b : Bool) → a ≡ true → b ≡ true → (a && b) ≡ true
+both_true a b e f = ap (λ x. x && b) e ∙ f
+
+-- a number that is a size
+size_taken : (lowest highest : ℕ) (number : Option ℤ) (n : ℕ) →
+    size_within lowest highest number ≡ Ok n →
+    (number ≡ Some (pos n)) × (lowest ≤ n) × (n ≤ highest)
+size_taken lowest highest None n e = absurd cc
+size_taken lowest highest (Some (negsuc k)) n e = absurd cc
+size_taken lowest highest (Some (pos k)) n e =
+    let t = test_ok (leb lowest k && leb k highest) k n NoSize e in
+    let parts = and_parts (leb lowest k) (leb k highest) t.0 in
+    let low = leb-true lowest k parts.0 in
+    let high = leb-true k highest parts.1 in
+    let is = t.1 in
+    (ap (λ m. Some (pos m)) t.1, omega arith, omega arith)
+
+-- and back: it is taken as one
+size_given : (lowest highest : ℕ) (number : Option ℤ) (n : ℕ) →
+    number ≡ Some (pos n) → lowest ≤ n → n ≤ highest → size_within lowest highest number ≡ Ok n
+size_given lowest highest number n e low high =
+    ap (size_within lowest highest) e
+    ∙ ap (λ b. cond b (Ok n) (Err NoSize))
+    (both_true (leb lowest n) (leb n highest) (le-leb lowest n low) (le-leb n highest high))
+
+-- the numbers of the tokens are those of a sheet
+abbrev Says : List (List ℕ) → Sheet → Type 0
+Says tokens sheet =
+    map number_of tokens ≡ map Some (pos sheet.rows ∷ pos sheet.cols ∷ sheet.entries)
+
+-- the sheet of the sizes, and of the entries of these tokens
+abbrev and_entries : List (List ℕ) → ℕ → ℕ → Result Sheet GridFault
+and_entries others rows cols =
+    entries_after (rows * cols) 0 others >>= λ entries. Ok (sheet_with rows cols entries)
+
+-- the same, where the second size is a token too
+abbrev and_cols : List ℕ → List (List ℕ) → ℕ → Result Sheet GridFault
+and_cols second others rows = size_of 1 64 second >>= and_entries others rows
+
+-- the sheet of two sizes and entries, and what its tokens say
+sheet_made : (lowest highest : ℕ) (first second : List ℕ) (others : List (List ℕ)) (rows cols : ℕ)
+    (entries : List ℤ) → size_of lowest highest first ≡ Ok rows → size_of 1 64 second ≡ Ok cols →
+    entries_after (rows * cols) 0 others ≡ Ok entries →
+    IsSheet lowest highest (sheet_with rows cols entries)
+    × Says (first ∷ second ∷ others) (sheet_with rows cols entries)
+sheet_made lowest highest first second others rows cols entries e f g =
+    let r = size_taken lowest highest (number_of first) rows e in
+    let c = size_taken 1 64 (number_of second) cols f in
+    let all = entries_taken (rows * cols) 0 others entries g in (
+      record {
+        some_rows = r.1;
+        few_rows = r.2;
+        some_cols = c.1;
+        few_cols = c.2;
+        full = omega (arith, all.1);
+        each = All-from_recursion IsEntry entries all.2;
+      },
+      ap (λ number. number ∷ number_of second ∷ map number_of others) r.0
+          ∙ ap (λ number. Some (pos rows) ∷ number ∷ map number_of others) c.0
+          ∙ ap (λ numbers. Some (pos rows) ∷ Some (pos cols) ∷ numbers) all.0,
+    )
+
+-- tokens that are a sheet
+pub sheet_taken : (lowest highest : ℕ) (tokens : List (List ℕ)) (sheet : Sheet) →
+    sheet_of lowest highest tokens ≡ Ok sheet →
+    IsSheet lowest highest sheet
+    × (map number_of tokens ≡ map Some (pos sheet.rows ∷ pos sheet.cols ∷ sheet.entries))
+unfolding sheet_of
+sheet_taken lowest highest [] sheet e = absurd cc
+sheet_taken lowest highest (first ∷ []) sheet e = absurd cc
+sheet_taken lowest highest (first ∷ second ∷ others) sheet e =
+    let a = bind_ok (size_of lowest highest first) (and_cols second others) sheet e in
+    let b = bind_ok (size_of 1 64 second) (and_entries others a.0) sheet a.2 in
+    let d = bind_ok (entries_after (a.0 * b.0) 0 others) (λ zs. Ok (sheet_with a.0 b.0 zs)) sheet
+    b.2 in
+    let is : sheet_with a.0 b.0 d.0 ≡ sheet = cc in
+    let made = sheet_made lowest highest first second others a.0 b.0 d.0 a.1 b.1 d.1 in
+    subst (λ (s : Sheet). IsSheet lowest highest s × Says (first ∷ second ∷ others) s) is made
+
+-- and a sheet is taken
+pub sheet_given : (lowest highest : ℕ) (tokens : List (List ℕ)) (sheet : Sheet) →
+    IsSheet lowest highest sheet →
+    map number_of tokens ≡ map Some (pos sheet.rows ∷ pos sheet.cols ∷ sheet.entries) →
+    sheet_of lowest highest tokens ≡ Ok sheet
+unfolding sheet_of
+sheet_given lowest highest [] sheet h e = absurd cc
+sheet_given lowest highest (first ∷ []) sheet h e = absurd cc
+sheet_given lowest highest (first ∷ second ∷ others) sheet h e =
+    let one : number_of first ≡ Some (pos sheet.rows) = cc in
+    let two : number_of second ≡ Some (pos sheet.cols) = cc in
+    let more : map number_of others ≡ map Some sheet.entries = cc in
+    let rows = size_given lowest highest (number_of first) sheet.rows one h.some_rows h.few_rows in
+    let cols = size_given 1 64 (number_of second) sheet.cols two h.some_cols h.few_cols in
+    let each = recursion_from_All IsEntry sheet.entries h.each in
+    let all : 0 + length sheet.entries ≡ sheet.rows * sheet.cols = omega (arith, h.full) in
+    let entries = entries_given (sheet.rows * sheet.cols) 0 others sheet.entries more all each in
+    ap (λ (r : Result ℕ GridFault). r >>= and_cols second others) rows
+    ∙ ap (λ (r : Result ℕ GridFault). r >>= and_entries others sheet.rows) cols
+    ∙ ap (λ (r : Result (List ℤ) GridFault). r >>= λ zs. Ok (sheet_with sheet.rows sheet.cols zs))
+    entries

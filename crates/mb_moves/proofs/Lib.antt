@@ -1,0 +1,14 @@
+pub mod TokenSteps
+pub mod NumberSteps
+pub mod EntrySteps
+pub mod SheetSteps
+pub mod ProductBounds
+pub mod SupportSteps
+pub mod WrittenSteps
+pub mod AcceptedTexts
+pub mod RowsOfEntries
+pub mod WrittenTokens
+pub mod SaidValues
+pub mod Verdicts
+pub mod RowSteps
+pub mod TestedTexts

@@ -1,0 +1,10 @@
+pub mod Text
+pub mod Numerals
+pub mod Sheet
+pub mod Capped
+pub mod Support
+pub mod Reads
+pub mod Moves
+pub mod Written
+pub mod Laws
+pub mod Testing
