@@ -1,0 +1,12 @@
+pub mod AscendingLists
+pub mod CountBounds
+pub mod FillLaws
+pub mod FirstFaults
+pub mod ListedTables
+pub mod MarginBounds
+pub mod MarginLaws
+pub mod MarginSums
+pub mod MovedMargins
+pub mod NoFault
+pub mod RowsAndColumns
+pub mod RowsOfEntries
