@@ -1,0 +1,41 @@
+use Rattle.std.proofs.Common.{subst, sym, ◌∙◌, ◌≡◌}
+use Rattle.mb_tables.specs.Step.{Moved}
+use Rattle.mb_walk.proofs.SearchSteps.{finds-none, finds-same}
+use Rattle.mb_walk.proofs.StepsBack.{moved-back, moved-back_only, moved-length, moved-one}
+use Rattle.mb_walk.proofs.expand.take_step.Goals as goal
+
+pub returns-then-not-apply-clause-found : goal.returns-then-not-apply-clause-found
+returns-then-not-apply-clause-found c =
+    finds-none (Moved c.args.sign c.args.table.now c.args.z.now) c.args.visited.now
+    c.args.next.now.items (λ v h fits. absurd (c.if-not-apply.ensures.refused v h fits))
+
+pub apply-undone-requires : goal.apply-undone-requires
+apply-undone-requires c =
+    moved-length c.args.sign c.args.table.now c.args.z.now c.apply.new.self
+    c.if-not-apply.ensures.moved ∙ c.requires.width
+
+pub prove-unreachable-requires : goal.prove-unreachable-requires
+prove-unreachable-requires c =
+    c.if-prove.ensures.refused c.args.table.now
+    (subst (λ sign. Moved sign c.apply.new.self c.args.z.now c.args.table.now)
+    (sym c.opposite.ensures)
+    (moved-back c.args.sign c.args.table.now c.args.z.now c.apply.new.self
+    c.if-not-apply.ensures.moved))
+    c.requires.counts
+
+pub returns-clause-found : goal.returns-clause-found
+returns-clause-found c =
+    finds-same (λ v. v ≡ c.apply.new.self) (Moved c.args.sign c.args.table.now c.args.z.now)
+    c.args.visited.now c.keep_new.new.visited c.args.next.now.items c.keep_new.new.next.items
+    (λ v e. subst (Moved c.args.sign c.args.table.now c.args.z.now) (sym e)
+    c.if-not-apply.ensures.moved)
+    (λ v h. moved-one c.args.sign c.args.table.now c.args.z.now c.apply.new.self v
+    c.if-not-apply.ensures.moved h)
+    c.in_ok-keep_new.ensures.found
+
+pub returns-clause-back : goal.returns-clause-back
+returns-clause-back c =
+    moved-back_only c.args.sign c.args.table.now c.args.z.now c.apply.new.self
+    c.apply-undone.new.self c.if-not-apply.ensures.moved
+    (subst (λ sign. Moved sign c.apply.new.self c.args.z.now c.apply-undone.new.self)
+    c.opposite.ensures c.if-prove.ensures.moved)
