@@ -1,0 +1,50 @@
+"""Runs two programs in turn and compares their least processor times and their peaks of memory."""
+import os
+import subprocess
+import sys
+import tempfile
+
+PLAIN = os.path.join(os.path.dirname(os.path.abspath(__file__)), "plain")
+FOLDER = tempfile.mkdtemp()
+
+
+def compiled(name):
+    """The program of bench/plain/NAME.rs, built by rustc -O into a temporary folder."""
+    program = os.path.join(FOLDER, name)
+    if not os.path.exists(program):
+        source = os.path.join(PLAIN, name + ".rs")
+        subprocess.run(["rustc", "-O", "-o", program, source], check=True)
+    return program
+
+
+def once(program, words):
+    """Processor seconds, peak megabytes and output of one run."""
+    notes = os.path.join(FOLDER, "notes")
+    run = subprocess.run([compiled("measure"), notes, program, *words], stdout=subprocess.PIPE, check=True)
+    with open(notes) as lines:
+        _, micros, kilobytes = map(int, lines.read().split())
+    return micros / 1e6, kilobytes / 1024, run.stdout
+
+
+def head():
+    """Prints the heads of the columns."""
+    print(f"{'':36} {'ours':>10} {'plain':>10} {'ratio':>6} {'ours':>12} {'plain':>10} {'ratio':>6}")
+
+
+def compare(label, ours, plain, words, runs=5):
+    """Prints one line: the least time and the peak of each program, and the ratios; answers ours."""
+    results = {}
+    outputs = {}
+    for _ in range(runs):
+        for name, program in (("ours", ours), ("plain", plain)):
+            seconds, peak, outputs[name] = once(program, words)
+            best = results.get(name, (seconds, peak))
+            results[name] = (min(best[0], seconds), max(best[1], peak))
+    if outputs["ours"] != outputs["plain"]:
+        sys.exit(f"{label}: the two programs answer differently")
+    (ours_s, ours_mb), (plain_s, plain_mb) = results["ours"], results["plain"]
+    print(
+        f"{label:36} {ours_s:8.3f} s {plain_s:8.3f} s {ours_s / plain_s:6.2f}"
+        f" {ours_mb:9.1f} MB {plain_mb:7.1f} MB {ours_mb / plain_mb:6.2f}"
+    )
+    return results["ours"]

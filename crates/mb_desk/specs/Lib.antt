@@ -1,0 +1,10 @@
+pub mod Asked
+pub mod Decide
+pub mod Decision
+pub mod Headline
+pub mod MovesCommand
+pub mod ReachCommand
+pub mod Refusals
+pub mod Reply
+pub mod TextRefusals
+pub mod Words

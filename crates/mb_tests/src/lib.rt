@@ -1,0 +1,22 @@
+//! The tests of all crates: what no contract says, as tables of cases.
+//!
+//! Expected values come from hand computation, from 4ti2, from a plain program or from worked
+//! examples, never from the program's own output.
+#![tactic(auto)]
+
+#[cfg(test)]
+mod fibers;
+#[cfg(test)]
+mod matrices;
+#[cfg(test)]
+mod moves_command;
+#[cfg(test)]
+mod outside;
+#[cfg(test)]
+mod reach_command;
+#[cfg(test)]
+mod run;
+#[cfg(test)]
+mod tables;
+#[cfg(test)]
+mod texts;
