@@ -1,14 +1,11 @@
 //! `moves MATRIX MOVES` as a plain Rust program: the yardstick of bench/moves.
 //!
 //! It does what the desk's command does, with the same answers for texts of the form: one pass over the
-//! bytes of each file, the entries kept in one vector, and exact sums in 128 bits.
+//! bytes of each file, one row kept at a time, and exact sums in 128 bits.
+use std::ops::RangeInclusive;
 use std::process::ExitCode;
 
-struct Grid {
-    rows: usize,
-    cols: usize,
-    entries: Vec<i32>,
-}
+const LARGEST: i64 = i32::MAX as i64;
 
 fn is_blank(byte: u8) -> bool {
     matches!(byte, 9..=13 | 32)
@@ -33,16 +30,29 @@ fn number(token: &[u8]) -> Option<i64> {
     Some(if negative { -value } else { value })
 }
 
-fn read(text: &[u8], most_rows: i64) -> Option<Grid> {
-    let mut tokens = text.split(|b| is_blank(*b)).filter(|t| !t.is_empty());
-    let rows = number(tokens.next()?).filter(|n| (0..=most_rows).contains(n))? as usize;
-    let cols = number(tokens.next()?).filter(|n| (1..=64).contains(n))? as usize;
-    let mut entries = Vec::new();
-    for _ in 0..rows * cols {
-        let entry = number(tokens.next()?).filter(|n| n.abs() <= i64::from(i32::MAX))?;
-        entries.push(entry as i32);
+/// The tokens of a text.
+fn tokens(text: &[u8]) -> impl Iterator<Item = &[u8]> {
+    text.split(|b| is_blank(*b)).filter(|t| !t.is_empty())
+}
+
+/// The next token's number, within these limits.
+fn next<'a>(tokens: &mut impl Iterator<Item = &'a [u8]>, limits: RangeInclusive<i64>) -> Option<i64> {
+    number(tokens.next()?).filter(|n| limits.contains(n))
+}
+
+/// Reads the rows of a text into one buffer and gives each to `row`; the sizes.
+fn read(text: &[u8], most_rows: i64, mut row: impl FnMut(usize, &[i32])) -> Option<(usize, usize)> {
+    let mut tokens = tokens(text);
+    let rows = next(&mut tokens, 0..=most_rows)? as usize;
+    let cols = next(&mut tokens, 1..=64)? as usize;
+    let mut buffer = vec![0; cols];
+    for k in 0..rows {
+        for entry in &mut buffer {
+            *entry = next(&mut tokens, -LARGEST..=LARGEST)? as i32;
+        }
+        row(k, &buffer);
     }
-    tokens.next().is_none().then_some(Grid { rows, cols, entries })
+    tokens.next().is_none().then_some((rows, cols))
 }
 
 fn margin(row: &[i32], moved: &[i32]) -> i128 {
@@ -52,19 +62,23 @@ fn margin(row: &[i32], moved: &[i32]) -> i128 {
 fn main() -> ExitCode {
     let names: Vec<String> = std::env::args().skip(2).collect();
     let texts: Vec<Vec<u8>> = names.iter().map(|name| std::fs::read(name).unwrap()).collect();
-    let matrix = read(&texts[0], 64).expect("a matrix");
-    let moves = read(&texts[1], 1_000_064).expect("moves");
-    drop(texts);
-    if matrix.cols != moves.cols {
-        println!("refused WidthDiffers matrix {} moves {}", matrix.cols, moves.cols);
+    let mut matrix = Vec::new();
+    let (_, matrix_cols) = read(&texts[0], 64, |_, row| matrix.push(row.to_vec())).expect("a matrix");
+    let mut wrong = None;
+    let (moves, cols) = read(&texts[1], 1_000_064, |k, moved| {
+        if wrong.is_none() && matrix.iter().any(|row| margin(row, moved) != 0) {
+            wrong = Some(k + 1);
+        }
+    })
+    .expect("moves");
+    if matrix_cols != cols {
+        println!("refused WidthDiffers matrix {matrix_cols} moves {cols}");
         return ExitCode::from(3);
     }
-    for (k, moved) in moves.entries.chunks(moves.cols).enumerate() {
-        if matrix.entries.chunks(matrix.cols).any(|row| margin(row, moved) != 0) {
-            println!("refused NotAMove row {}", k + 1);
-            return ExitCode::from(3);
-        }
+    if let Some(row) = wrong {
+        println!("refused NotAMove row {row}");
+        return ExitCode::from(3);
     }
-    println!("moves {}", moves.rows);
+    println!("moves {moves}");
     ExitCode::SUCCESS
 }
