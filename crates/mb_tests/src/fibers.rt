@@ -2,6 +2,7 @@
 
 use crate::run::reach;
 use mb_matrix::{Matrix, plain_fibre};
+use mb_outside::NoGate;
 use mb_tables::Table;
 use std::alloc::{AllocError, Global};
 use std::test::Fail;
@@ -84,7 +85,7 @@ fn reached_lines<R: Threads + Sync>(
     let cells = counts.len();
     let mut table = format!(in alloc; "1 {cells}\n")?.into_bytes();
     table.extend_from_slice(line_of(alloc, counts)?.as_slice())?;
-    let text = reach(rt, alloc, matrix, moves, table.as_slice())?;
+    let text = reach(rt, alloc, &NoGate, matrix, moves, table.as_slice())?;
     Ok(table_lines(alloc, text.as_slice())?)
 }
 

@@ -7,6 +7,8 @@
 #[cfg(test)]
 mod fibers;
 #[cfg(test)]
+mod gates;
+#[cfg(test)]
 mod matrices;
 #[cfg(test)]
 mod moves_command;

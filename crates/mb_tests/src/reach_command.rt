@@ -2,6 +2,7 @@
 
 use crate::run::{Bodies, Case, first_wrong, reach};
 use mb_desk::Status;
+use mb_outside::NoGate;
 use std::alloc::{AllocError, Global};
 use std::test::Fail;
 
@@ -91,17 +92,20 @@ fn swaps(alloc: Global, size: u32) -> Result<Vec<u8>, AllocError> {
     Ok(text)
 }
 
-/// One line: 1 at rows i, k and columns j, l on the diagonal, and -1 off it.
-fn append_swap(text: &mut Vec<u8>, size: u32, [i, k, j, l]: [u32; 4]) -> Result<(), AllocError> {
-    for row in 0..size {
-        for column in 0..size {
-            let entry: &[u8] = match (row == i, row == k, column == j, column == l) {
-                (true, _, true, _) | (_, true, _, true) => b"1 ",
-                (true, _, _, true) | (_, true, true, _) => b"-1 ",
-                _ => b"0 ",
-            };
-            text.extend_from_slice(entry)?;
-        }
+/// An entry of the swap of rows i, k and columns j, l: 1 on the diagonal, and -1 off it.
+fn swap_entry(row: u32, column: u32, [i, k, j, l]: [u32; 4]) -> &'static [u8] {
+    match (row == i, row == k, column == j, column == l) {
+        (true, _, true, _) | (_, true, _, true) => b"1 ",
+        (true, _, _, true) | (_, true, true, _) => b"-1 ",
+        _ => b"0 ",
+    }
+}
+
+/// The line of a swap, row by row.
+fn append_swap(text: &mut Vec<u8>, size: u32, places: [u32; 4]) -> Result<(), AllocError> {
+    for cell in 0..size.saturating_mul(size) {
+        let (row, column) = (cell / size.max(1), cell % size.max(1));
+        text.extend_from_slice(swap_entry(row, column, places))?;
     }
     text.extend_from_slice(b"\n")
 }
@@ -123,7 +127,7 @@ const M44: &[u8] = b"8 16
 fn a_larger_fiber(rt: HostRuntime) -> Result<(), Fail> {
     let moves = swaps(rt.alloc(), 4)?;
     let table = b"1 16\n3 0 0 0 0 3 0 0 0 0 3 0 0 0 0 3\n";
-    let text = reach(&rt, rt.alloc(), M44, moves.as_slice(), table)?;
+    let text = reach(&rt, rt.alloc(), &NoGate, M44, moves.as_slice(), table)?;
     let begins: &[u8] =
         b"tables 2008\nring 0 1\n3 0 0 0 0 3 0 0 0 0 3 0 0 0 0 3\nring 1 6\n2 0 0 1 0 3 ";
     assert!(rt; text.as_slice().starts_with(begins));

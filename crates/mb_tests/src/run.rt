@@ -1,8 +1,8 @@
 //! Calls of the desk over files and a sink in memory.
 
 use mb_desk::{Status, desk};
-use mb_outside::{Files, MemFiles, MemSink, NoGate, SureKeeper};
-use std::alloc::Global;
+use mb_outside::{Files, Gate, MemFiles, MemSink, NoGate, SureKeeper};
+use std::alloc::{AllocError, Global};
 use std::test::Fail;
 use std::thread::Threads;
 
@@ -54,6 +54,14 @@ impl Case {
     }
 }
 
+/// The numbers of these reads among all calls, where so many writes come before them.
+fn calls_of(alloc: Global, writes: u32, reads: &[u32]) -> Result<Vec<u32>, AllocError> {
+    reads
+        .iter()
+        .map(|read| writes.saturating_add(*read))
+        .collect(alloc)
+}
+
 /// Files that hold these, and whose listed reads fail. The writes that put them there are calls
 /// too.
 fn files_of(
@@ -61,11 +69,7 @@ fn files_of(
     bodies: &[(&str, &[u8])],
     failing_reads: &[u32],
 ) -> Result<MemFiles, Fail> {
-    let writes = u32::try_from(bodies.len())?;
-    let mut failing = Vec::new(alloc);
-    for read in failing_reads {
-        failing.push(writes.saturating_add(*read))?;
-    }
+    let failing = calls_of(alloc, u32::try_from(bodies.len())?, failing_reads)?;
     let mut files = MemFiles::try_new(alloc, failing.as_slice())?;
     for (name, body) in bodies {
         put_file(&mut files, name, body)?;
@@ -74,34 +78,27 @@ fn files_of(
 }
 
 /// Calls the desk with these words.
-fn call<R: Threads + Sync>(
+fn call<R: Threads + Sync, G: Gate + Sync>(
     rt: &R,
     alloc: Global,
     words: &[&str],
     files: &mut MemFiles,
     out: &mut MemSink,
+    gate: &G,
 ) -> Result<Status, Fail> {
     let mut given = Vec::new(alloc);
     for word in words {
         given.push(String::from_str(alloc, word)?)?;
     }
     let mut keeper = SureKeeper::new(alloc);
-    Ok(desk(
-        rt,
-        alloc,
-        given.as_slice(),
-        files,
-        &mut keeper,
-        out,
-        &NoGate,
-    ))
+    Ok(desk(rt, alloc, given.as_slice(), files, &mut keeper, out, gate))
 }
 
 /// Whether the desk answers a case as it is wanted.
 fn is_answered<R: Threads + Sync>(rt: &R, alloc: Global, case: &Case) -> Result<bool, Fail> {
     let mut files = files_of(alloc, case.files, case.failing_reads)?;
     let mut out = MemSink::try_new(alloc, case.room, case.failing_puts)?;
-    let status = call(rt, alloc, case.words, &mut files, &mut out)?;
+    let status = call(rt, alloc, case.words, &mut files, &mut out, &NoGate)?;
     Ok(status == case.status && out.bytes() == case.output)
 }
 
@@ -127,10 +124,11 @@ fn put_file(files: &mut MemFiles, name: &str, body: &[u8]) -> Result<(), Fail> {
     }
 }
 
-/// What `reach` puts for the texts of a matrix, moves and a table.
-pub fn reach<R: Threads + Sync>(
+/// What `reach` puts for the texts of a matrix, moves and a table, and with this gate.
+pub fn reach<R: Threads + Sync, G: Gate + Sync>(
     rt: &R,
     alloc: Global,
+    gate: &G,
     matrix: &[u8],
     moves: &[u8],
     table: &[u8],
@@ -141,6 +139,6 @@ pub fn reach<R: Threads + Sync>(
     put_file(&mut files, "m.tab", table)?;
     let mut out = MemSink::try_new(alloc, 1_000_000, &[])?;
     let words = ["reach", "m.mat", "m.mar", "m.tab"];
-    call(rt, alloc, &words, &mut files, &mut out)?;
+    call(rt, alloc, &words, &mut files, &mut out, gate)?;
     Ok(Vec::from_slice(alloc, out.bytes())?)
 }
