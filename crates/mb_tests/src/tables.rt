@@ -72,37 +72,61 @@ fn steps(rt: HostRuntime) -> Result<(), Fail> {
     Ok(())
 }
 
-// Up to 64 cells; the order is that of the first count that differs.
-#[test]
-fn tables_and_moves(rt: HostRuntime) -> Result<(), Fail> {
-    let alloc = rt.alloc();
-    assert!(rt; Table::try_new(alloc, &[7; 64])?.as_slice() == [7; 64].as_slice());
-    assert!(rt;
-        matches!(
-            Table::try_new(alloc, &[0; 65]),
-            Err(TableFault::TooManyCells)
-        )
+/// Whether a table of 64 counts is made and one of 65 is refused.
+fn are_widths_of_tables_kept(alloc: Global) -> Result<bool, Fail> {
+    let widest = [7; 64];
+    let made = Table::try_new(alloc, &widest)?.as_slice() == widest.as_slice();
+    let refused = matches!(
+        Table::try_new(alloc, &[0; 65]),
+        Err(TableFault::TooManyCells)
     );
-    let (low, high) = (
-        Table::try_new(alloc, &[1, 9])?,
-        Table::try_new(alloc, &[2, 0])?,
+    Ok(made && refused)
+}
+
+/// Whether tables are compared by the first count that differs.
+fn is_first_difference_the_order(alloc: Global) -> Result<bool, Fail> {
+    let low = Table::try_new(alloc, &[1, 9])?;
+    let high = Table::try_new(alloc, &[2, 0])?;
+    Ok(low.cmp(&high) == Ordering::Less && high.cmp(&low) == Ordering::Greater && low != high)
+}
+
+/// Whether a copy of a table equals it.
+fn is_copy_equal(alloc: Global) -> Result<bool, Fail> {
+    let table = Table::try_new(alloc, &[1, 9])?;
+    let copy = table.try_copy()?;
+    Ok(copy == table)
+}
+
+/// Whether a move is made, and refused where it is too wide or has an entry that is too large.
+fn are_moves_made(alloc: Global) -> Result<bool, Fail> {
+    let entries = [0, -5];
+    let made = Move::try_new(alloc, &entries)?.as_slice() == entries.as_slice();
+    let wide = matches!(Move::try_new(alloc, &[0; 65]), Err(MoveFault::TooManyCells));
+    let large = matches!(
+        Move::try_new(alloc, &[1, i32::MIN, i32::MIN]),
+        Err(MoveFault::EntryTooLarge { cell: 1 })
     );
-    assert!(rt; low.cmp(&high) == Ordering::Less && high.cmp(&low) == Ordering::Greater);
-    assert!(rt; low.try_copy()? == low && low != high);
-    assert!(rt; Move::try_new(alloc, &[0, -5])?.as_slice() == [0, -5].as_slice());
-    assert!(rt; matches!(Move::try_new(alloc, &[0; 65]), Err(MoveFault::TooManyCells)));
-    assert!(rt;
-        matches!(
-            Move::try_new(alloc, &[1, i32::MIN, i32::MIN]),
-            Err(MoveFault::EntryTooLarge { cell: 1 })
-        )
-    );
+    Ok(made && wide && large)
+}
+
+/// Whether a list has the move that is pushed.
+fn is_move_pushed(alloc: Global) -> Result<bool, Fail> {
     let mut moves = Moves::new(alloc, 2);
     let z = Move::try_new(alloc, &[1, -1])?;
     if z.len() != 2 {
         return Err(Fail::from("another length"));
     }
     moves.push(z)?;
-    assert!(rt; moves.len() == 1 && moves.width() == 2);
+    Ok(moves.len() == 1 && moves.width() == 2)
+}
+
+// By hand: up to 64 cells, the order of lists, copies, refusals, a list of one move.
+#[test]
+fn tables_and_moves(rt: HostRuntime) -> Result<(), Fail> {
+    assert!(rt; are_widths_of_tables_kept(rt.alloc())?);
+    assert!(rt; is_first_difference_the_order(rt.alloc())?);
+    assert!(rt; is_copy_equal(rt.alloc())?);
+    assert!(rt; are_moves_made(rt.alloc())?);
+    assert!(rt; is_move_pushed(rt.alloc())?);
     Ok(())
 }
