@@ -1,10 +1,13 @@
 """Runs two programs in turn and compares their least processor times and their peaks of memory."""
 import os
+import shutil
 import subprocess
 import sys
 import tempfile
 
-PLAIN = os.path.join(os.path.dirname(os.path.abspath(__file__)), "plain")
+HERE = os.path.dirname(os.path.abspath(__file__))
+ROOT = os.path.join(HERE, "..")
+PLAIN = os.path.join(HERE, "plain")
 FOLDER = tempfile.mkdtemp()
 
 
@@ -15,6 +18,29 @@ def compiled(name):
         source = os.path.join(PLAIN, name + ".rs")
         subprocess.run(["rustc", "-O", "-o", program, source], check=True)
     return program
+
+
+def built(folder, name, crates, words):
+    """Our program of bench/ours/NAME.txt, built in a folder over a copy of the crates and run once with words."""
+    for crate in crates:
+        shutil.copytree(
+            os.path.join(ROOT, "crates", crate), os.path.join(folder, "crates", crate),
+            ignore=shutil.ignore_patterns("must-fail", "README.md"),
+        )
+    program = f"{name}_bench"
+    lines = open(os.path.join(ROOT, "crates.txt")).read().split("\n")
+    kept = [line for line in lines if line.split(":")[0] in crates]
+    with open(os.path.join(folder, "crates.txt"), "w") as out:
+        out.write("\n".join(kept + [f"{program}: " + " ".join(sorted(crates + ["itoa"]))]) + "\n")
+    shutil.copy(os.path.join(ROOT, "HANDLES"), folder)
+    source = os.path.join(folder, "crates", program, "src")
+    os.makedirs(source)
+    shutil.copy(os.path.join(HERE, "ours", f"{name}.txt"), os.path.join(source, "main.rt"))
+    crate = os.path.dirname(source)
+    run = subprocess.run(["rt", "run", "--", *words], cwd=crate, capture_output=True, text=True)
+    if run.returncode != 0:
+        sys.exit(run.stdout + run.stderr)
+    return os.path.join(crate, "out", program)
 
 
 def once(program, words):

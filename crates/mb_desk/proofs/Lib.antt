@@ -1,6 +1,14 @@
+pub mod Counts
+pub mod EachCommand
+pub mod Fitting
 pub mod Inversions
+pub mod Making
 pub mod Meanings
+pub mod OptionWords
 pub mod ReachInversions
+pub mod Replaying
 pub mod Replies
+pub mod Told
 pub mod Verdicts
 pub mod WalkStarts
+pub mod Works

@@ -1,28 +1,23 @@
--- What an answer of the desk means.
-use Rattle.std.proofs.Common.{List, None, Ok, Option, Some, subst, ℕ, ◌≡◌}
-use Rattle.mb_desk.proofs.Inversions.{bind_ok, counts_moves}
-use Rattle.mb_desk.proofs.ReachInversions.{finds_rings}
-use Rattle.mb_desk.specs.Asked.{AskMoves, AskReach, Asked}
-use Rattle.mb_desk.specs.Decide.{answer_to}
-use Rattle.mb_desk.specs.Headline.{AnswersMoves, AnswersReach, AnswersRequest}
-use Rattle.mb_desk.specs.MovesCommand.{moves_count, moves_line}
-use Rattle.mb_desk.specs.ReachCommand.{reach_rings}
-use Rattle.mb_outside.specs.Files.{Held}
-use Rattle.mb_reports.specs.RingTable.{ring_table_of}
+-- What an answer that was put means.
+use Rattle.std.proofs.Common.{List, Ok, Option, ℕ, ◌≡◌}
+use Rattle.mb_desk.proofs.EachCommand.{plan_means}
+use Rattle.mb_desk.proofs.Told.{weakened}
+use Rattle.mb_desk.specs.Changes.{changed}
+use Rattle.mb_desk.specs.Commands.{plan_of}
+use Rattle.mb_desk.specs.Decision.{InWorld, Scene}
+use Rattle.mb_desk.specs.Headline.{Answers}
+use Rattle.mb_desk.specs.World.{world_of}
+use Rattle.mb_desk.specs.declared.plans.Plan.{Plan}
+use Rattle.mb_desk.specs.declared.requests.Request.{Request}
+use Rattle.mb_outside.specs.Sink.{Grows}
 
--- an answer of the desk has its meaning
-pub answers_request : (held : Held) (asked : Option Asked) (answer : List ℕ) →
-    answer_to held asked ≡ Ok answer → AnswersRequest held answer asked
-answers_request held None answer e = absurd (cc)
-answers_request held (Some (AskMoves first second)) answer e =
-    let a = bind_ok (moves_count held first second) (λ count. Ok (moves_line count)) answer e in
-    let printed : moves_line a.0 ≡ answer = cc in
-    subst (λ text. AnswersMoves held first second text) printed
-    (counts_moves held first second a.0 a.1)
-answers_request held (Some (AskReach first second third limit)) answer e =
-    let a =
-    bind_ok (reach_rings held first second third limit) (λ rings. Ok (ring_table_of rings))
-    answer e in
-    let printed : ring_table_of a.0 ≡ answer = cc in
-    subst (λ text. AnswersReach held first second third limit text) printed
-    (finds_rings held first second third limit a.0 a.1)
+-- an answer that was put has its meaning
+pub answer_means : (before after : Scene) (request : Request)
+    (taken_before taken_after : Option (List ℕ)) →
+    InWorld before after (λ w v. (plan : Plan) × (plan_of request w ≡ Ok plan)
+    × (v ≡ changed plan.change w) × Grows taken_before taken_after plan.answer) →
+    InWorld before after (λ w v. (answer : List ℕ) × Answers request w answer
+    × Grows taken_before taken_after answer)
+answer_means before after request tb ta done =
+    weakened _ _ (world_of before.files before.rows) (world_of after.files after.rows)
+    (λ w v d. ((d.0).answer, plan_means request w d.0 d.1, d.3)) done

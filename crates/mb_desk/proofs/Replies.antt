@@ -1,132 +1,286 @@
--- What a status says of the reply that was put.
-use Rattle.std.proofs.Common.{Err, IfSome, List, None, Ok, Option, Result, Some, Vec, ap, inl, inr, refl, subst, sym, ℕ, ◌∙◌, ◌≡◌, ◌⊎◌}
-use Rattle.mb_desk.proofs.Meanings.{answers_request}
-use Rattle.mb_desk.specs.Decide.{decide}
-use Rattle.std.specs.declared.alloc.Global.{Global}
-use Rattle.mb_desk.specs.Decision.{Decided, Follows}
-use Rattle.mb_desk.specs.Headline.{Answers}
+-- What is put of how the work ended.
+use Rattle.std.proofs.Common.{Bool, Err, IfOk, IfSome, List, Ok, Option, Result, Some, ap, arith, false, inl, inr, refl, subst, sym, true, ℕ, ◌∙◌, ◌≡◌, ◌≤◌, ◌⊎◌}
+use Rattle.mb_desk.proofs.Told.{weakened}
+use Rattle.mb_desk.proofs.Works.{none_left}
+use Rattle.mb_desk.specs.Changes.{changed}
+use Rattle.mb_desk.specs.Completes.{Completes}
+use Rattle.mb_desk.specs.Decision.{Decided, HaveCause, InWorld, Scene, blames}
+use Rattle.mb_desk.specs.Ends.{EachLeft, Ended, Ends, Stays}
+use Rattle.mb_desk.specs.Needs.{Needs}
 use Rattle.mb_desk.specs.Refusals.{status_of}
-use Rattle.mb_desk.specs.Reply.{MayReply, Puts, Reply, bytes_of, reply_of}
-use Rattle.mb_desk.specs.Words.{request_of}
-use Rattle.mb_desk.specs.declared.refusals.FileRefusal.TheVariants as files
+use Rattle.mb_desk.specs.Reply.{EndsAndPuts, MayReply, Puts, Reply, reply_to}
+use Rattle.mb_desk.specs.World.{World, world_of}
+use Rattle.mb_desk.specs.declared.plans.Plan.{Plan}
+use Rattle.mb_desk.specs.declared.plans.Stop.{Stop}
+use Rattle.mb_desk.specs.declared.plans.Stop.TheVariants.{Memory, Outside, Refused}
 use Rattle.mb_desk.specs.declared.refusals.Refusal.{Refusal}
 use Rattle.mb_desk.specs.declared.refusals.Refusal.TheVariants as refusals
 use Rattle.mb_desk.specs.declared.status.Status.{Status}
-use Rattle.mb_desk.specs.declared.status.Status.TheVariants.{Done}
-use Rattle.mb_outside.specs.Causes.{HasCause}
+use Rattle.mb_desk.specs.declared.status.Status.TheVariants as statuses
+use Rattle.mb_outside.specs.Causes.{Rose}
 use Rattle.mb_outside.specs.Files.{Held}
+use Rattle.mb_outside.specs.Rows.{Rows}
 use Rattle.mb_outside.specs.Sink.{Grows}
+use Rattle.mb_outside.specs.Told.{WhereTold}
 
--- no refusal ends in Done
-never_done : (refusal : Refusal) → status_of refusal ≡ Done → ⊥
-never_done refusals.Memory e = cc
-never_done refusals.Words e = cc
-never_done refusals.Outside e = cc
-never_done (refusals.File file files.TooLong) e = cc
-never_done (refusals.File file _) e = cc
-never_done (refusals.WidthDiffers matrix moves) e = cc
-never_done (refusals.NotAMove row) e = cc
-never_done (refusals.Matrix fault) e = cc
-never_done (refusals.TooLarge seen) e = cc
+-- the work that a refusal ends may be said to end for want of memory: all is as it was
+said_memory : (before after : Scene) (decide : World → Decided Plan) (refusal : Refusal) →
+    Ends before after decide (Err (Refused refusal)) → Ends before after decide (Err Memory)
+said_memory before after decide refusal ends = record {
+  left = weakened _ _ (world_of before.files before.rows) (world_of after.files after.rows)
+      (λ w v left. left.1) ends.left;
+  cause = ends.cause;
+}
 
--- the text of a reply that ends in Done
-abbrev IsAnswer : Decided (List ℕ) → Reply → Type 0
-IsAnswer decided reply = (answer : List ℕ) × (decided ≡ Ok answer) × (reply.text ≡ answer)
-
--- a reply to a decision that ends in Done is its whole answer
-replies_answer : (decided : Decided (List ℕ)) (reply : Reply) → reply ≡ reply_of decided →
-    reply.status ≡ Done → IsAnswer decided reply
-replies_answer (Ok answer) reply e s = (answer, refl, ap (λ (r : Reply). r.text) e)
-replies_answer (Err refusal) reply e s =
-    absurd (never_done refusal (sym (ap (λ (r : Reply). r.status) e) ∙ s))
-
--- the same of every reply that may come
-may_answer : (decided : Decided (List ℕ)) (before after : ℕ) (reply : Reply) →
-    MayReply decided before after reply → reply.status ≡ Done → IsAnswer decided reply
-may_answer decided before after reply (inl e) s = replies_answer decided reply e s
-may_answer decided before after reply (inr (inl e)) s =
-    absurd (never_done refusals.Memory (sym (ap (λ (r : Reply). r.status) e) ∙ s))
-may_answer decided before after reply (inr (inr e)) s =
-    absurd (never_done refusals.Outside (sym (ap (λ (r : Reply). r.status) e.0) ∙ s))
-
--- where the desk is done, the answer of its request was put whole
-pub done_answers : (words : List (List ℕ)) (held : Held) (files_before files_after : ℕ)
-    (taken_before taken_after : Option (List ℕ)) (puts_before puts_after : ℕ)
-    (reply : Reply) (status : Status) →
-    MayReply (decide words held) files_before files_after reply →
-    Puts taken_before taken_after puts_before puts_after reply status → status ≡ Done →
-    (answer : List ℕ) × Answers words held answer × Grows taken_before taken_after answer
-done_answers words held fb fa tb ta pb pa reply status may (inl put) s =
-    let a = may_answer (decide words held) fb fa reply may (sym put.0 ∙ s) in (
-      a.0,
-      answers_request held (request_of words) a.0 a.1,
-      subst (λ text. Grows tb ta text) a.2 put.1,
+-- what is put is the reply to an end that the work may have
+pub replied : (before after : Scene) (decide : World → Decided Plan)
+    (taken_before taken_after : Option (List ℕ)) (failed_before failed_after : ℕ) (ended : Ended)
+    (reply : Reply) (status : Status) → Ends before after decide ended → MayReply ended reply →
+    Puts taken_before taken_after failed_before failed_after reply status →
+    EndsAndPuts before after decide taken_before taken_after failed_before failed_after status
+replied before after decide tb ta fb fa ended reply status ends (inl own) puts =
+    (ended, ends, subst (λ r. Puts tb ta fb fa r status) own puts)
+replied before after decide tb ta fb fa (Err (Refused refusal)) reply status ends (inr memory)
+    puts = (
+      Err Memory,
+      said_memory before after decide refusal ends,
+      subst (λ r. Puts tb ta fb fa r status) memory.1 puts,
     )
-done_answers words held fb fa tb ta pb pa reply status may (inr failed) s = absurd (cc)
+replied before after decide tb ta fb fa (Err Memory) reply status ends (inr memory) puts =
+    absurd memory.0
+replied before after decide tb ta fb fa (Err Outside) reply status ends (inr memory) puts =
+    absurd memory.0
+replied before after decide tb ta fb fa (Ok answer) reply status ends (inr memory) puts =
+    absurd memory.0
 
--- a reply that is put is that of some decision
-pub some_decision : (decided : Decided (List ℕ)) (taken_before taken_after : Option (List ℕ))
-    (puts_before puts_after : ℕ) (status : Status) →
-    (reply : Reply) × ((reply ≡ reply_of decided) ⊎ (reply ≡ reply_of (Err refusals.Memory)))
-    × Puts taken_before taken_after puts_before puts_after reply status →
-    (decided : Decided (List ℕ))
-    × Puts taken_before taken_after puts_before puts_after (reply_of decided) status
-some_decision decided tb ta pb pa status (reply, inl e, put) =
-    (decided, subst (λ r. Puts tb ta pb pa r status) e put)
-some_decision decided tb ta pb pa status (reply, inr e, put) =
-    (Err refusals.Memory, subst (λ r. Puts tb ta pb pa r status) e put)
+-- a refusal ends in one of three statuses
+three_statuses : (refusal : Refusal) →
+    (status_of refusal ≡ statuses.Refused)
+    ⊎ ((status_of refusal ≡ statuses.Limit) ⊎ (status_of refusal ≡ statuses.Registry))
+three_statuses (refusals.NoFile file) = inl refl
+three_statuses (refusals.TooLong file) = inr (inl refl)
+three_statuses (refusals.NoSize file) = inl refl
+three_statuses (refusals.BadNumber file token) = inl refl
+three_statuses (refusals.TooWideNumber file token) = inl refl
+three_statuses (refusals.TooFew file found wanted) = inl refl
+three_statuses (refusals.TooMany file wanted) = inl refl
+three_statuses (refusals.NotATable file) = inl refl
+three_statuses (refusals.WidthDiffers matrix moves) = inl refl
+three_statuses (refusals.NotAMove row) = inl refl
+three_statuses refusals.TooManyCells = inl refl
+three_statuses refusals.TooManyMargins = inl refl
+three_statuses (refusals.Negative row cell) = inl refl
+three_statuses (refusals.EntryTooLarge row cell) = inl refl
+three_statuses (refusals.ZeroColumn cell) = inl refl
+three_statuses (refusals.TooLarge seen) = inr (inl refl)
+three_statuses (refusals.Unknown kind name) = inr (inr refl)
+three_statuses (refusals.Conflict kind name) = inr (inr refl)
 
--- the same of what the files tell
-pub done_where_told : (told : Option Held) (words : List (List ℕ)) (files_before files_after : ℕ)
-    (taken_before taken_after : Option (List ℕ)) (puts_before puts_after : ℕ) (status : Status) →
-    IfSome told (λ held. (reply : Reply)
-    × MayReply (decide words held) files_before files_after reply
-    × Puts taken_before taken_after puts_before puts_after reply status) →
-    status ≡ Done → IfSome told (λ held. (answer : List ℕ)
-    × Answers words held answer × Grows taken_before taken_after answer)
-done_where_told None words fb fa tb ta pb pa status h s = tt
-done_where_told (Some held) words fb fa tb ta pb pa status h s =
-    done_answers words held fb fa tb ta pb pa h.0 status h.1 h.2 s
+-- and in no other
+never : (refusal : Refusal) (status : Status) → (statuses.Refused ≡ status → ⊥) →
+    (statuses.Limit ≡ status → ⊥) → (statuses.Registry ≡ status → ⊥) →
+    status_of refusal ≡ status → ⊥
+never refusal status refused limit registry e = by (three_statuses refusal)
+  where
+    by : (status_of refusal ≡ statuses.Refused)
+        ⊎ ((status_of refusal ≡ statuses.Limit) ⊎ (status_of refusal ≡ statuses.Registry)) → ⊥
+    by (inl own) = refused (sym own ∙ e)
+    by (inr (inl own)) = limit (sym own ∙ e)
+    by (inr (inr own)) = registry (sym own ∙ e)
 
--- the reply to what the code answered may come to what was decided
-may_reply : (decided : Decided (List ℕ)) (answered : Result (Vec ℕ Global) Refusal)
-    (before after : ℕ) → Follows (λ (answer : Vec ℕ Global). answer.items) answered decided →
-    HasCause before after (answered ≡ Err refusals.Outside) → (reply : Reply) →
-    (reply ≡ reply_of (bytes_of answered)) ⊎ (reply ≡ reply_of (Err refusals.Memory)) →
-    MayReply decided before after reply
-may_reply decided answered before after follows cause reply (inr e) = inr (inl e)
-may_reply decided (Ok answer) before after follows cause reply (inl e) =
-    inl (e ∙ ap reply_of (sym follows))
-may_reply decided (Err refusals.Memory) before after follows cause reply (inl e) = inr (inl e)
-may_reply decided (Err refusals.Outside) before after follows cause reply (inl e) =
-    inr (inr (e, cause.failed refl))
-may_reply decided (Err refusals.Words) before after follows cause reply (inl e) =
-    inl (e ∙ ap reply_of (sym follows))
-may_reply decided (Err (refusals.File file fault)) before after follows cause reply (inl e) =
-    inl (e ∙ ap reply_of (sym follows))
-may_reply decided (Err (refusals.WidthDiffers matrix moves)) before after follows cause reply
-    (inl e) =
-    inl (e ∙ ap reply_of (sym follows))
-may_reply decided (Err (refusals.NotAMove row)) before after follows cause reply (inl e) =
-    inl (e ∙ ap reply_of (sym follows))
-may_reply decided (Err (refusals.Matrix fault)) before after follows cause reply (inl e) =
-    inl (e ∙ ap reply_of (sym follows))
-may_reply decided (Err (refusals.TooLarge seen)) before after follows cause reply (inl e) =
-    inl (e ∙ ap reply_of (sym follows))
+-- no refusal says that the work is done
+never_done : (refusal : Refusal) → status_of refusal ≡ statuses.Done → ⊥
+never_done refusal e =
+    never refusal statuses.Done (λ d. absurd (cc)) (λ d. absurd (cc)) (λ d. absurd (cc)) e
 
--- what is put, where the files tell
-pub told_reply : (told : Option Held) (words : List (List ℕ))
-    (answered : Result (Vec ℕ Global) Refusal) (files_before files_after : ℕ)
-    (taken_before taken_after : Option (List ℕ)) (puts_before puts_after : ℕ) (status : Status) →
-    IfSome told (λ held. Follows (λ (answer : Vec ℕ Global). answer.items) answered
-    (decide words held)) →
-    HasCause files_before files_after (answered ≡ Err refusals.Outside) →
-    (reply : Reply)
-    × ((reply ≡ reply_of (bytes_of answered)) ⊎ (reply ≡ reply_of (Err refusals.Memory)))
-    × Puts taken_before taken_after puts_before puts_after reply status →
-    IfSome told (λ held. (reply : Reply)
-    × MayReply (decide words held) files_before files_after reply
-    × Puts taken_before taken_after puts_before puts_after reply status)
-told_reply None words answered fb fa tb ta pb pa status follows cause put = tt
-told_reply (Some held) words answered fb fa tb ta pb pa status follows cause put =
-    (put.0, may_reply (decide words held) answered fb fa follows cause put.0 put.1, put.2)
+-- the end of no work blames the words
+words_end : (ended : Ended) → (reply_to ended).status ≡ statuses.Words → ⊥
+words_end (Ok answer) e = cc
+words_end (Err Memory) e = cc
+words_end (Err Outside) e = cc
+words_end (Err (Refused refusal)) e =
+    never refusal statuses.Words (λ d. absurd (cc)) (λ d. absurd (cc)) (λ d. absurd (cc)) e
+
+-- an end whose status is that of a fault is a fault
+fault_end : (ended : Ended) → (reply_to ended).status ≡ statuses.Outside → ended ≡ Err Outside
+fault_end (Ok answer) e = absurd (cc)
+fault_end (Err Memory) e = absurd (cc)
+fault_end (Err Outside) e = refl
+fault_end (Err (Refused refusal)) e =
+    absurd (never refusal statuses.Outside (λ d. absurd (cc)) (λ d. absurd (cc)) (λ d. absurd (cc)) e)
+
+-- the counts of an end that is no fault are as before
+stayed : (before after : Scene) (ended : Ended) → HaveCause before after (blames ended) →
+    ((reply_to ended).status ≡ statuses.Outside → ⊥) →
+    (after.files_failed ≡ before.files_failed) × (after.rows_failed ≡ before.rows_failed)
+stayed before after (Ok answer) cause other = cause
+stayed before after (Err Memory) cause other = cause
+stayed before after (Err Outside) cause other = absurd (other refl)
+stayed before after (Err (Refused refusal)) cause other = cause
+
+-- a fault comes only where a count rose
+pub blames_one : (before after : Scene) (decide : World → Decided Plan)
+    (taken_before taken_after : Option (List ℕ)) (failed_before failed_after : ℕ)
+    (status : Status) →
+    EndsAndPuts before after decide taken_before taken_after failed_before failed_after status →
+    status ≡ statuses.Outside →
+    Rose before.files_failed after.files_failed
+    ⊎ (Rose before.rows_failed after.rows_failed ⊎ Rose failed_before failed_after)
+blames_one before after decide tb ta fb fa status (ended, ends, inr failed) e =
+    inr (inr (omega (arith, (failed.2).counted)))
+blames_one before after decide tb ta fb fa status (ended, ends, inl put) e =
+    by (subst (λ (end : Ended). HaveCause before after (blames end))
+    (fault_end ended (sym put.0 ∙ e)) ends.cause).one
+  where
+    by : Rose before.files_failed after.files_failed ⊎ Rose before.rows_failed after.rows_failed →
+        Rose before.files_failed after.files_failed
+        ⊎ (Rose before.rows_failed after.rows_failed ⊎ Rose fb fa)
+    by (inl rose) = inl rose
+    by (inr rose) = inr (inl rose)
+
+-- and at every other status all counts are as before
+pub quiet : (before after : Scene) (decide : World → Decided Plan)
+    (taken_before taken_after : Option (List ℕ)) (failed_before failed_after : ℕ)
+    (status : Status) →
+    EndsAndPuts before after decide taken_before taken_after failed_before failed_after status →
+    (status ≡ statuses.Outside → ⊥) →
+    (after.files_failed ≡ before.files_failed) × (after.rows_failed ≡ before.rows_failed)
+    × (failed_after ≡ failed_before)
+quiet before after decide tb ta fb fa status (ended, ends, inr failed) other =
+    absurd (other failed.0)
+quiet before after decide tb ta fb fa status (ended, ends, inl put) other =
+    let counts = stayed before after ended ends.cause (λ e. other (put.0 ∙ e)) in
+    (counts.0, counts.1, (put.2).counted)
+
+-- where the work is done, its answer was put whole after its change was made
+pub done_answers : (before after : Scene) (decide : World → Decided Plan)
+    (taken_before taken_after : Option (List ℕ)) (failed_before failed_after : ℕ)
+    (status : Status) →
+    EndsAndPuts before after decide taken_before taken_after failed_before failed_after status →
+    status ≡ statuses.Done → InWorld before after (λ w v. (plan : Plan)
+    × (decide w ≡ Ok plan) × (v ≡ changed plan.change w)
+    × Grows taken_before taken_after plan.answer)
+done_answers before after decide tb ta fb fa status (ended, ends, inr failed) e = absurd (cc)
+done_answers before after decide tb ta fb fa status (Ok answer, ends, inl put) e =
+    weakened _ _ (world_of before.files before.rows) (world_of after.files after.rows)
+    (λ w v left.
+    (record { answer = answer; change = left.0 }, left.1, left.2, put.1)) ends.left
+done_answers before after decide tb ta fb fa status (Err Memory, ends, inl put) e = absurd (cc)
+done_answers before after decide tb ta fb fa status (Err Outside, ends, inl put) e = absurd (cc)
+done_answers before after decide tb ta fb fa status (Err (Refused refusal), ends, inl put) e =
+    absurd (never_done refusal (sym put.0 ∙ e))
+
+-- where it was neither done nor failed, what stays after a refusal stayed
+pub refused_stays : (Same : Type 0) (taken_before taken_after : Option (List ℕ))
+    (failed_before failed_after : ℕ) (ended : Ended) (reply : Reply) (status : Status) →
+    Stays ended Same → MayReply ended reply →
+    Puts taken_before taken_after failed_before failed_after reply status →
+    (status ≡ statuses.Done → ⊥) → (status ≡ statuses.Outside → ⊥) → Same
+refused_stays Same tb ta fb fa ended reply status stays may (inr failed) n m = absurd (m failed.0)
+refused_stays Same tb ta fb fa (Ok answer) reply status stays (inl own) (inl put) n m =
+    absurd (n (put.0 ∙ ap (λ (r : Reply). r.status) own))
+refused_stays Same tb ta fb fa (Ok answer) reply status stays (inr memory) (inl put) n m =
+    absurd memory.0
+refused_stays Same tb ta fb fa (Err Memory) reply status stays may (inl put) n m = stays
+refused_stays Same tb ta fb fa (Err Outside) reply status stays (inl own) (inl put) n m =
+    absurd (m (put.0 ∙ ap (λ (r : Reply). r.status) own))
+refused_stays Same tb ta fb fa (Err Outside) reply status stays (inr memory) (inl put) n m =
+    absurd memory.0
+refused_stays Same tb ta fb fa (Err (Refused refusal)) reply status stays may (inl put) n m = stays
+
+-- where it was done, what holds after an answer holds
+pub done_holds : (Holds : Type 0) (taken_before taken_after : Option (List ℕ))
+    (failed_before failed_after : ℕ) (ended : Ended) (reply : Reply) (status : Status) →
+    IfOk ended (λ _. Holds) → MayReply ended reply →
+    Puts taken_before taken_after failed_before failed_after reply status →
+    status ≡ statuses.Done → Holds
+done_holds Holds tb ta fb fa ended reply status holds may (inr failed) e = absurd (cc)
+done_holds Holds tb ta fb fa (Ok answer) reply status holds may (inl put) e = holds
+done_holds Holds tb ta fb fa (Err Memory) reply status holds (inl own) (inl put) e =
+    absurd (cc (put.0, own, e))
+done_holds Holds tb ta fb fa (Err Memory) reply status holds (inr memory) (inl put) e =
+    absurd memory.0
+done_holds Holds tb ta fb fa (Err Outside) reply status holds (inl own) (inl put) e =
+    absurd (cc (put.0, own, e))
+done_holds Holds tb ta fb fa (Err Outside) reply status holds (inr memory) (inl put) e =
+    absurd memory.0
+done_holds Holds tb ta fb fa (Err (Refused refusal)) reply status holds (inl own) (inl put) e =
+    absurd (never_done refusal (sym (put.0 ∙ ap (λ (r : Reply). r.status) own) ∙ e))
+done_holds Holds tb ta fb fa (Err (Refused refusal)) reply status holds (inr memory) (inl put) e =
+    absurd (cc (put.0, memory.1, e))
+
+-- whatever the status, each object is as one change leaves it
+pub each_is_left : (needs : Needs) (f0 f1 : Option Held) (r0 r1 : Option Rows) (ended : Ended) →
+    Stays ended (f1 ≡ f0) → Stays ended (WhereTold r0 r1 (λ b a. a ≡ b)) →
+    IfOk ended (λ _. EachLeft needs f0 f1 r0 r1 (Ok tt)) →
+    (ended ≡ Err Outside → (made : Result (Unit {0}) Stop) × EachLeft needs f0 f1 r0 r1 made) →
+    (made : Result (Unit {0}) Stop) × EachLeft needs f0 f1 r0 r1 made
+each_is_left needs f0 f1 r0 r1 (Ok answer) files rows done failed = (Ok tt, done)
+each_is_left needs f0 f1 r0 r1 (Err Memory) files rows done failed =
+    (Ok tt, none_left needs f0 f1 r0 r1 files rows)
+each_is_left needs f0 f1 r0 r1 (Err Outside) files rows done failed = failed refl
+each_is_left needs f0 f1 r0 r1 (Err (Refused refusal)) files rows done failed =
+    (Ok tt, none_left needs f0 f1 r0 r1 files rows)
+
+-- the reply to work never blames the words
+pub not_words : (before after : Scene) (decide : World → Decided Plan)
+    (taken_before taken_after : Option (List ℕ)) (failed_before failed_after : ℕ)
+    (status : Status) →
+    EndsAndPuts before after decide taken_before taken_after failed_before failed_after status →
+    status ≡ statuses.Words → ⊥
+not_words before after decide tb ta fb fa status (ended, ends, inl put) e =
+    words_end ended (sym put.0 ∙ e)
+not_words before after decide tb ta fb fa status (ended, ends, inr failed) e = cc
+
+-- a request that is accepted, in a call in which no count of faults rose, is done or lacks memory
+pub completes : (before after : Scene) (decide : World → Decided Plan)
+    (taken_before taken_after : Option (List ℕ)) (failed_before failed_after : ℕ)
+    (status : Status) →
+    EndsAndPuts before after decide taken_before taken_after failed_before failed_after status →
+    (Rose before.files_failed after.files_failed → ⊥) →
+    (Rose before.rows_failed after.rows_failed → ⊥) → (Rose failed_before failed_after → ⊥) →
+    InWorld before after (λ w v. (plan : Plan) → decide w ≡ Ok plan →
+    Completes w v plan taken_before taken_after status)
+completes before after decide tb ta fb fa status (ended, ends, inr failed) files rows sink =
+    absurd (sink (omega (arith, (failed.2).counted)))
+completes before after decide tb ta fb fa status (Ok answer, ends, inl put) files rows sink =
+    weakened _ _ (world_of before.files before.rows) (world_of after.files after.rows)
+    (λ w v left plan e.
+    let same : ◌≡◌ {A = Plan} (record { answer = answer; change = left.0 }) plan =
+    cc (left.1, e) in
+    inl (record {
+      done = put.0;
+      made = left.2 ∙ ap (λ (p : Plan). changed p.change w) same;
+      put = subst (λ (p : Plan). Grows tb ta p.answer) same put.1;
+    })) ends.left
+completes before after decide tb ta fb fa status (Err Memory, ends, inl put) files rows sink =
+    weakened _ _ (world_of before.files before.rows) (world_of after.files after.rows)
+    (λ w v left plan e. inr (record { memory = put.0; same = left; put = put.1 })) ends.left
+completes before after decide tb ta fb fa status (Err Outside, ends, inl put) files rows sink =
+    absurd (by ends.cause.one)
+  where
+    by : Rose before.files_failed after.files_failed ⊎ Rose before.rows_failed after.rows_failed → ⊥
+    by (inl rose) = files rose
+    by (inr rose) = rows rose
+completes before after decide tb ta fb fa status (Err (Refused refusal), ends, inl put) files rows
+    sink =
+    weakened _ _ (world_of before.files before.rows) (world_of after.files after.rows)
+    (λ w v left plan e. absurd (cc (left.0, e))) ends.left
+
+-- no count falls
+pub later : (before after : Scene) (decide : World → Decided Plan)
+    (taken_before taken_after : Option (List ℕ)) (failed_before failed_after : ℕ)
+    (status : Status) →
+    EndsAndPuts before after decide taken_before taken_after failed_before failed_after status →
+    (before.files_failed ≤ after.files_failed) × (before.rows_failed ≤ after.rows_failed)
+later before after decide tb ta fb fa status (ended, ends, puts) = by (blames ended) ends.cause
+  where
+    by : (blamed : Bool) → HaveCause before after blamed →
+        (before.files_failed ≤ after.files_failed) × (before.rows_failed ≤ after.rows_failed)
+    by true cause = (cause.files, cause.rows)
+    by false cause = (omega (arith, cause.0), omega (arith, cause.1))
+
+-- what holds of a value holds of an option that is it
+pub where_some : {A : Type 0} (Fact : A → Type 0) (option : Option A) (x : A) → Some x ≡ option →
+    Fact x → IfSome option Fact
+where_some Fact option x e fact = subst (λ o. IfSome o Fact) e fact

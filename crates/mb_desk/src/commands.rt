@@ -1,4 +1,4 @@
-//! The commands, one a file.
+//! The commands, one a file: each makes its plan, and stores nothing.
 
 pub mod moves;
 pub mod reach;

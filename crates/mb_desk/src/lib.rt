@@ -1,20 +1,33 @@
-//! The desk: one call that does all that the program does, from the words and the files to the
-//! one line or text that is put.
+//! The desk: one call that does all that the program does, from the words, the files and the rows
+//! to the one line or text that is put.
 #![tactic(auto)]
 
 mod commands;
+mod commit;
+mod judging;
+mod kinds;
+mod laws;
+mod lines;
+mod plans;
 mod reading;
 mod refusals;
 mod reply;
 mod requests;
+mod rows;
 mod start;
 mod status;
 mod texts;
 mod top;
 mod words;
+mod work;
 
-pub use refusals::{FileRefusal, MatrixRefusal, Refusal};
-pub use requests::{MovesWords, ReachWords, Request};
+pub use kinds::Kind;
+pub use laws::{calls_are_replayed, repeats_alike};
+pub use plans::{Change, Plan, Stop};
+pub use refusals::Refusal;
+pub use requests::{Limit, MovesWords, ReachWords, Request};
+pub use rows::AllRows;
 pub use status::Status;
+pub use texts::{Body, Text, Word};
 pub use top::desk;
 pub use words::read_words;

@@ -1,42 +1,32 @@
-//! Reading the named files.
-
-ghost use Rattle.std.specs.Prelude.{◌≡◌, ◌≢◌, ◌≤◌, Err, IfOk, IfSome, vec_len};
+//! Reading a named file.
 ghost use Rattle.std.specs.FinMap.{get};
-ghost use Rattle.mb_desk.specs.Decision.{Follows, body_of};
-ghost use Rattle.mb_outside.specs.Causes.{HasCause};
+ghost use Rattle.mb_desk.specs.Decision.{DoesFiles};
+ghost use Rattle.mb_desk.specs.Inputs.{body_of};
 
-use crate::refusals::{FileRefusal, Refusal};
-use mb_outside::{FileFault, Files, LONGEST_FILE};
+use crate::plans::Stop;
+use crate::refusals::Refusal;
+use crate::texts::{Body, Word};
+use mb_outside::{FileFault, Files};
 use std::alloc::Global;
 
-/// The body of the file of a name, which is the command's file word of this number, from 1.
+/// The body of the file that a word names, which is the command's file word of this number, from 1.
 ///
 /// Refused are a file that isn't there and one of more than 67,108,864 bytes.
 pub fn read_file<F: Files>(
     alloc: Global,
     files: &mut F,
-    name: &str,
+    name: &Word<'_>,
     file: u32,
-) -> Result<Vec<u8>, Refusal>
-    ensures body { IfSome (F.held files.old)
-        (λ held. Follows (λ body. body.items) result (body_of file (get held name.now))) }
-    ensures within { IfOk result (λ body. vec_len body ≤ LONGEST_FILE) }
-    ensures request { result ≢ Err Refusal.Words }
-    ensures cause { HasCause (F.faults files.old) (F.faults files.new)
-        (result ≡ Err Refusal.Outside) }
-    ensures same { F.held files.new ≡ F.held files.old }
+) -> Result<Body, Stop>
+    ensures does { DoesFiles (F.held files.old) (F.held files.new)
+        (F.faults files.old) (F.faults files.new)
+        result (λ held. body_of file (get held name.now)) }
 {
-    match files.read(alloc, name) {
-        Ok(Some(body)) => Ok(body),
-        Ok(None) => Err(Refusal::File {
-            file,
-            fault: FileRefusal::NoFile,
-        }),
-        Err(FileFault::TooLong) => Err(Refusal::File {
-            file,
-            fault: FileRefusal::TooLong,
-        }),
-        Err(FileFault::Failed) => Err(Refusal::Outside),
-        Err(FileFault::OutOfMemory) => Err(Refusal::Memory),
+    match files.read(alloc, name.as_str()) {
+        Ok(Some(body)) => Ok(Body::of(body)),
+        Ok(None) => Err(Stop::Refused(Refusal::NoFile { file })),
+        Err(FileFault::TooLong) => Err(Stop::Refused(Refusal::TooLong { file })),
+        Err(FileFault::Failed) => Err(Stop::Outside),
+        Err(FileFault::OutOfMemory) => Err(Stop::Memory),
     }
 }

@@ -1,149 +1,150 @@
-//! Every refusal that the desk prints, and its one line.
+//! Every refusal that is decided, its status and its one line.
+ghost use Rattle.std.specs.Prelude.{◌≡◌, IfOk};
+ghost use Rattle.mb_desk.specs.Lines.{line_of};
+ghost use Rattle.mb_desk.specs.Refusals.{name_of, record_fields, refusal_line, status_of};
 
-ghost use Rattle.std.specs.Prelude.{◌≡◌, IfOk, string_bytes};
-ghost use Rattle.mb_desk.specs.Refusals.{file_line, matrix_line, refusal_line, status_of};
-
+use crate::kinds::Kind;
+use crate::lines::{Field, number, refused, text};
 use crate::status::Status;
+use crate::texts::{Body, Text};
 use std::alloc::{AllocError, Global};
 
-/// What is wrong with a named file, with its place in the file where there is one. Tokens count
-/// from 1, the two sizes included.
-#[derive(Clone, Copy, Debug, PartialEq, Eq)]
-pub enum FileRefusal {
+/// Why a request is refused. Each comes exactly where the decision says so: want of memory and
+/// faults of the outside are no refusals. The file words of a command count from 1, tokens of a
+/// file from 1 with the two sizes included, rows of a move file from 1, and rows and cells of a
+/// matrix from 0.
+#[derive(Drop)]
+pub enum Refusal {
     /// There is no such file.
-    NoFile,
+    NoFile { file: u32 },
     /// It has more than 67,108,864 bytes.
-    TooLong,
+    TooLong { file: u32 },
     /// It doesn't begin with two sizes within the limits.
-    NoSize,
-    /// This token is no number.
-    BadNumber { token: u32 },
+    NoSize { file: u32 },
+    /// This token of it is no number.
+    BadNumber { file: u32, token: u32 },
     /// The number of this token is no entry.
-    TooWideNumber { token: u32 },
+    TooWideNumber { file: u32, token: u32 },
     /// It ends before the last entry.
-    TooFew { found: u32, wanted: u32 },
+    TooFew { file: u32, found: u32, wanted: u32 },
     /// A token follows the last entry.
-    TooMany { wanted: u32 },
+    TooMany { file: u32, wanted: u32 },
     /// It is a move file, but no table: it hasn't one row, or another width than the matrix, or an
     /// entry below 0, or a sum above 1,000,000.
-    NotATable,
-}
-
-/// Why the matrix of a file is no design matrix. Rows and cells count from 0.
-#[derive(Clone, Copy, Debug, PartialEq, Eq)]
-pub enum MatrixRefusal {
-    /// It has no cells, or more than 64.
-    TooManyCells,
-    /// It has no rows, or more than 64.
-    TooManyMargins,
-    /// The first entry below 0.
-    Negative { row: u32, cell: u32 },
-    /// The first entry above 1,000.
-    EntryTooLarge { row: u32, cell: u32 },
-    /// The lowest column that is all 0.
-    ZeroColumn { cell: u32 },
-}
-
-/// Why a command is refused. It takes no memory, and `status` and `line` say what is answered.
-#[derive(Clone, Copy, Debug, PartialEq, Eq)]
-pub enum Refusal {
-    /// No memory was to be had.
-    Memory,
-    /// The words are no request.
-    Words,
-    /// A fault of the files, the keeper or the sink.
-    Outside,
-    /// A named file is refused. The file words of a command count from 1.
-    File { file: u32, fault: FileRefusal },
+    NotATable { file: u32 },
     /// The moves are over another number of cells than the matrix.
     WidthDiffers { matrix: u32, moves: u32 },
-    /// This row of the move file, the first such one, has a margin that isn't 0. Rows count from 1.
+    /// This row of the move file, the first such one, has a margin that isn't 0.
     NotAMove { row: u32 },
-    /// The matrix is no design matrix.
-    Matrix { fault: MatrixRefusal },
+    /// The matrix has no cells, or more than 64.
+    TooManyCells,
+    /// The matrix has no rows, or more than 64.
+    TooManyMargins,
+    /// The first entry of the matrix below 0.
+    Negative { row: u32, cell: u32 },
+    /// The first entry of the matrix above 1,000.
+    EntryTooLarge { row: u32, cell: u32 },
+    /// The lowest column of the matrix that is all 0.
+    ZeroColumn { cell: u32 },
     /// More tables than the limit are reached; so many were seen, the limit and one more.
     TooLarge { seen: u32 },
+    /// There is no record of this kind and name.
+    Unknown { kind: Kind, name: Text },
+    /// The record of this kind and name is there, with another body.
+    Conflict { kind: Kind, name: Text },
 }
 
 impl Refusal {
-    /// The status that it ends in: 5 for a limit, 3 for every other refusal of what was read.
-    pub fn status(self) -> Status
-        ensures { result ≡ status_of self }
+    /// The status that it ends in: 5 for a limit, 6 for the registry, and 3 for every other refusal
+    /// of what was read.
+    pub fn status(&self) -> Status
+        ensures { result ≡ status_of self.now }
     {
         match self {
-            Refusal::Memory => Status::Memory,
-            Refusal::Words => Status::Words,
-            Refusal::Outside => Status::Outside,
-            Refusal::File {
-                fault: FileRefusal::TooLong,
-                ..
-            } => Status::Limit,
-            Refusal::File { .. } => Status::Refused,
-            Refusal::WidthDiffers { .. } => Status::Refused,
-            Refusal::NotAMove { .. } => Status::Refused,
-            Refusal::Matrix { .. } => Status::Refused,
+            Refusal::TooLong { .. } => Status::Limit,
             Refusal::TooLarge { .. } => Status::Limit,
+            Refusal::Unknown { .. } => Status::Registry,
+            Refusal::Conflict { .. } => Status::Registry,
+            _ => Status::Refused,
         }
     }
 
-    /// Its one line, with the line end.
-    pub fn line(self, alloc: Global) -> Result<String, AllocError>
-        ensures { IfOk result (λ line. string_bytes line ≡ refusal_line self) }
+    /// Its name.
+    fn name(&self) -> &'static str
+        ensures { result.now ≡ name_of self.now }
     {
         match self {
-            Refusal::Memory => format!(in alloc; "refused Memory\n"),
-            Refusal::Words => format!(in alloc; "refused Words\n"),
-            Refusal::Outside => format!(in alloc; "refused Outside\n"),
-            Refusal::File { file, fault } => file_refusal_line(alloc, file, fault),
-            Refusal::WidthDiffers { matrix, moves } => {
-                format!(in alloc; "refused WidthDiffers matrix {matrix} moves {moves}\n")
+            Refusal::NoFile { .. } => "NoFile",
+            Refusal::TooLong { .. } => "TooLong",
+            Refusal::NoSize { .. } => "NoSize",
+            Refusal::BadNumber { .. } => "BadNumber",
+            Refusal::TooWideNumber { .. } => "TooWideNumber",
+            Refusal::TooFew { .. } => "TooFew",
+            Refusal::TooMany { .. } => "TooMany",
+            Refusal::NotATable { .. } => "NotATable",
+            Refusal::WidthDiffers { .. } => "WidthDiffers",
+            Refusal::NotAMove { .. } => "NotAMove",
+            Refusal::TooManyCells => "TooManyCells",
+            Refusal::TooManyMargins => "TooManyMargins",
+            Refusal::Negative { .. } => "Negative",
+            Refusal::EntryTooLarge { .. } => "EntryTooLarge",
+            Refusal::ZeroColumn { .. } => "ZeroColumn",
+            Refusal::TooLarge { .. } => "TooLarge",
+            Refusal::Unknown { .. } => "Unknown",
+            Refusal::Conflict { .. } => "Conflict",
+        }
+    }
+
+    /// Its one line, with the line end: its name, and each field as a key and a value.
+    pub fn line(&self, alloc: Global) -> Result<Body, AllocError>
+        ensures { IfOk result (λ line. line ≡ refusal_line self.now) }
+    {
+        match self {
+            Refusal::NoFile { file }
+            | Refusal::TooLong { file }
+            | Refusal::NoSize { file }
+            | Refusal::NotATable { file } => self.with(alloc, &[number("file", *file)]),
+            Refusal::BadNumber { file, token } | Refusal::TooWideNumber { file, token } => {
+                self.with(alloc, &[number("file", *file), number("token", *token)])
             }
-            Refusal::NotAMove { row } => format!(in alloc; "refused NotAMove row {row}\n"),
-            Refusal::Matrix { fault } => matrix_refusal_line(alloc, fault),
-            Refusal::TooLarge { seen } => format!(in alloc; "refused TooLarge seen {seen}\n"),
+            Refusal::TooFew {
+                file,
+                found,
+                wanted,
+            } => {
+                let (found, wanted) = (number("found", *found), number("wanted", *wanted));
+                self.with(alloc, &[number("file", *file), found, wanted])
+            }
+            Refusal::TooMany { file, wanted } => {
+                self.with(alloc, &[number("file", *file), number("wanted", *wanted)])
+            }
+            Refusal::WidthDiffers { matrix, moves } => {
+                self.with(alloc, &[number("matrix", *matrix), number("moves", *moves)])
+            }
+            Refusal::NotAMove { row } => self.with(alloc, &[number("row", *row)]),
+            Refusal::TooManyCells | Refusal::TooManyMargins => self.with(alloc, &[]),
+            Refusal::Negative { row, cell } | Refusal::EntryTooLarge { row, cell } => {
+                self.with(alloc, &[number("row", *row), number("cell", *cell)])
+            }
+            Refusal::ZeroColumn { cell } => self.with(alloc, &[number("cell", *cell)]),
+            Refusal::TooLarge { seen } => self.with(alloc, &[number("seen", *seen)]),
+            Refusal::Unknown { kind, name } | Refusal::Conflict { kind, name } => {
+                self.with(alloc, &record_fields(*kind, name))
+            }
         }
+    }
+
+    /// The line of its name and these fields.
+    fn with(&self, alloc: Global, fields: &[Field<'_>]) -> Result<Body, AllocError>
+        ensures { IfOk result (λ line. line ≡ line_of (name_of self.now) fields.now) }
+    {
+        refused(alloc, self.name(), fields)
     }
 }
 
-/// The line of a refused file.
-fn file_refusal_line(alloc: Global, file: u32, fault: FileRefusal) -> Result<String, AllocError>
-    ensures { IfOk result (λ line. string_bytes line ≡ file_line file fault) }
+/// The fields that name a record.
+fn record_fields(kind: Kind, name: &Text) -> [Field<'_>; 2]
+    ensures { result ≡ record_fields kind name.now }
 {
-    match fault {
-        FileRefusal::NoFile => format!(in alloc; "refused NoFile file {file}\n"),
-        FileRefusal::TooLong => format!(in alloc; "refused TooLong file {file}\n"),
-        FileRefusal::NoSize => format!(in alloc; "refused NoSize file {file}\n"),
-        FileRefusal::BadNumber { token } => {
-            format!(in alloc; "refused BadNumber file {file} token {token}\n")
-        }
-        FileRefusal::TooWideNumber { token } => {
-            format!(in alloc; "refused TooWideNumber file {file} token {token}\n")
-        }
-        FileRefusal::TooFew { found, wanted } => {
-            format!(in alloc; "refused TooFew file {file} found {found} wanted {wanted}\n")
-        }
-        FileRefusal::TooMany { wanted } => {
-            format!(in alloc; "refused TooMany file {file} wanted {wanted}\n")
-        }
-        FileRefusal::NotATable => format!(in alloc; "refused NotATable file {file}\n"),
-    }
-}
-
-/// The line of a refused matrix.
-fn matrix_refusal_line(alloc: Global, fault: MatrixRefusal) -> Result<String, AllocError>
-    ensures { IfOk result (λ line. string_bytes line ≡ matrix_line fault) }
-{
-    match fault {
-        MatrixRefusal::TooManyCells => format!(in alloc; "refused TooManyCells\n"),
-        MatrixRefusal::TooManyMargins => format!(in alloc; "refused TooManyMargins\n"),
-        MatrixRefusal::Negative { row, cell } => {
-            format!(in alloc; "refused Negative row {row} cell {cell}\n")
-        }
-        MatrixRefusal::EntryTooLarge { row, cell } => {
-            format!(in alloc; "refused EntryTooLarge row {row} cell {cell}\n")
-        }
-        MatrixRefusal::ZeroColumn { cell } => {
-            format!(in alloc; "refused ZeroColumn cell {cell}\n")
-        }
-    }
+    [text("kind", kind.word()), text("name", name.as_str())]
 }

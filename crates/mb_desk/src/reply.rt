@@ -1,20 +1,19 @@
 //! Putting the reply.
+ghost use Rattle.std.specs.Prelude.{Err};
+ghost use Rattle.mb_desk.specs.Reply.{MayReply, Puts, Reply, no_request};
+ghost use Rattle.mb_desk.specs.declared.plans.Stop.TheVariants.{Refused};
 
-ghost use Rattle.std.specs.Prelude.{◌≡◌, ◌≤◌, ◌⊎◌, Err};
-ghost use Rattle.mb_desk.specs.Reply.{Puts, Reply, bytes_of, reply_of};
-ghost use Rattle.mb_outside.specs.Causes.{HasCause};
-
+use crate::plans::Stop;
 use crate::refusals::Refusal;
 use crate::status::Status;
+use crate::texts::Body;
 use mb_outside::Sink;
 use std::alloc::Global;
 
-/// Puts a text whole and answers the status, or `Outside` where the put failed. It is the only
-/// put of a call.
+/// Puts a text whole and answers the status, or `Outside` where the put failed.
 fn put<S: Sink>(out: &mut S, text: &[u8], status: Status) -> Status
     ensures put { Puts (S.taken out.old) (S.taken out.new) (S.faults out.old) (S.faults out.new)
         (record { status = status; text = text.now }) result }
-    ensures later { S.faults out.old ≤ S.faults out.new }
 {
     match out.put(text) {
         Ok(()) => status,
@@ -22,30 +21,36 @@ fn put<S: Sink>(out: &mut S, text: &[u8], status: Status) -> Status
     }
 }
 
+/// Puts the line of words that are no request. It takes no memory.
+pub fn put_no_request<S: Sink>(out: &mut S) -> Status
+    ensures put { Puts (S.taken out.old) (S.taken out.new) (S.faults out.old) (S.faults out.new)
+        no_request result }
+{
+    put(out, b"refused Words\n", Status::Words)
+}
+
 /// Puts the line of a refusal, or that of want of memory where there is none for the line.
 fn put_refusal<S: Sink>(alloc: Global, out: &mut S, refusal: Refusal) -> Status
-    ensures put { (reply : Reply)
-        × ((reply ≡ reply_of (Err refusal)) ⊎ (reply ≡ reply_of (Err Refusal.Memory)))
+    ensures put { (reply : Reply) × MayReply (Err (Refused refusal)) reply
         × Puts (S.taken out.old) (S.taken out.new) (S.faults out.old) (S.faults out.new)
         reply result }
-    ensures later { S.faults out.old ≤ S.faults out.new }
 {
     match refusal.line(alloc) {
-        Ok(line) => put(out, line.as_bytes(), refusal.status()),
+        Ok(line) => put(out, line.as_slice(), refusal.status()),
         Err(_) => put(out, b"refused Memory\n", Status::Memory),
     }
 }
 
-/// Puts the reply to what was decided, or that of want of memory.
-pub fn put_reply<S: Sink>(alloc: Global, out: &mut S, decided: Result<Vec<u8>, Refusal>) -> Status
-    ensures put { (reply : Reply)
-        × ((reply ≡ reply_of (bytes_of decided)) ⊎ (reply ≡ reply_of (Err Refusal.Memory)))
+/// Puts the reply to how the work ended.
+pub fn put_reply<S: Sink>(alloc: Global, out: &mut S, ended: Result<Body, Stop>) -> Status
+    ensures put { (reply : Reply) × MayReply ended reply
         × Puts (S.taken out.old) (S.taken out.new) (S.faults out.old) (S.faults out.new)
         reply result }
-    ensures later { S.faults out.old ≤ S.faults out.new }
 {
-    match decided {
+    match ended {
         Ok(answer) => put(out, answer.as_slice(), Status::Done),
-        Err(refusal) => put_refusal(alloc, out, refusal),
+        Err(Stop::Memory) => put(out, b"refused Memory\n", Status::Memory),
+        Err(Stop::Outside) => put(out, b"refused Outside\n", Status::Outside),
+        Err(Stop::Refused(refusal)) => put_refusal(alloc, out, refusal),
     }
 }

@@ -1,91 +1,114 @@
-//! The texts of the files, as matrices and moves.
+//! Texts that contracts see as their bytes, so that what holds them needs no second form in the
+//! definitions.
+ghost use Rattle.std.specs.Prelude.{◌≡◌, IfOk, string_bytes};
 
-ghost use Rattle.std.specs.Prelude.{◌≡◌, All, IfOk, OnOk};
-ghost use Rattle.mb_desk.specs.Decision.{BlamesNeither, Follows};
-ghost use Rattle.mb_desk.specs.MovesCommand.{judged, judged_text};
-ghost use Rattle.mb_desk.specs.TextRefusals.{accepted, text_refusal};
-ghost use Rattle.mb_moves.specs.Moves.{IsGrid, sheet};
-ghost use Rattle.mb_moves.specs.Sheet.{matrix_of, moves_of};
-ghost use Rattle.mb_moves.specs.Testing.{HasZeroMargins};
+use std::alloc::{AllocError, Global};
+use std::marker::Model;
 
-use crate::refusals::{FileRefusal, Refusal};
-use mb_moves::{Grid, GridFault, Tested, first_not_move, read_matrix, read_moves, test_moves};
-use mb_tables::Moves;
-use std::alloc::Global;
-
-/// The refusal of the file of this number for the fault of its text.
-fn refusal_of_text(file: u32, fault: GridFault) -> Refusal
-    ensures { result ≡ text_refusal file fault }
-{
-    let fault = match fault {
-        GridFault::OutOfMemory => return Refusal::Memory,
-        GridFault::NoSize => FileRefusal::NoSize,
-        GridFault::BadNumber { token } => FileRefusal::BadNumber { token },
-        GridFault::TooWideNumber { token } => FileRefusal::TooWideNumber { token },
-        GridFault::TooFew { found, wanted } => FileRefusal::TooFew { found, wanted },
-        GridFault::TooMany { wanted } => FileRefusal::TooMany { wanted },
-    };
-    Refusal::File { file, fault }
+/// A word of the command line.
+#[derive(Drop)]
+pub struct Word<'a> {
+    text: &'a str,
 }
 
-/// The matrix that the text of a file says. The text is dropped.
-pub fn matrix_text(alloc: Global, text: Vec<u8>, file: u32) -> Result<Grid, Refusal>
-    ensures matrix { Follows sheet result (accepted file (matrix_of text.items)) }
-    ensures sound { IfOk result IsGrid }
-    ensures own { BlamesNeither result }
-{
-    match read_matrix(alloc, text.as_slice()) {
-        Ok(grid) => Ok(grid),
-        Err(fault) => Err(refusal_of_text(file, fault)),
+impl<'a> Model for Word<'a> {
+    ghost use Rattle.std.specs.Prelude.{List, ℕ};
+
+    ghost Value = { List ℕ };
+
+    ghost view = { λ word. word.text.now };
+}
+
+impl<'a> Word<'a> {
+    /// This word.
+    pub fn of(text: &'a str) -> Word<'a>
+        ensures { result ≡ text.now }
+    {
+        Word { text }
+    }
+
+    /// The same word.
+    pub fn again(&self) -> Word<'a>
+        ensures { result ≡ self.now }
+    {
+        Word { text: self.text }
+    }
+
+    /// The word as text.
+    pub fn as_str(&self) -> &'a str
+        ensures { result.now ≡ self.now }
+    {
+        self.text
     }
 }
 
-/// The moves that the text of a file says. The text is dropped.
-pub fn moves_text(alloc: Global, text: Vec<u8>, file: u32) -> Result<Moves, Refusal>
-    ensures moves { Follows (λ moves. moves) result (accepted file (moves_of text.items)) }
-    ensures own { BlamesNeither result }
-{
-    match read_moves(alloc, text.as_slice()) {
-        Ok(moves) => Ok(moves),
-        Err(fault) => Err(refusal_of_text(file, fault)),
+/// A text of one's own, as a refusal carries it.
+#[derive(Drop)]
+pub struct Text {
+    text: String,
+}
+
+impl Model for Text {
+    ghost use Rattle.std.specs.Prelude.{List, string_bytes, ℕ};
+
+    ghost Value = { List ℕ };
+
+    ghost view = { λ text. string_bytes text.text };
+}
+
+impl Text {
+    /// A copy of a text.
+    pub fn copy_of(alloc: Global, text: &str) -> Result<Text, AllocError>
+        ensures { IfOk result (λ copy. copy ≡ text.now) }
+    {
+        Ok(Text {
+            text: String::from_str(alloc, text)?,
+        })
+    }
+
+    /// The text.
+    pub fn as_str(&self) -> &str
+        ensures { result.now ≡ self.now }
+    {
+        self.text.as_str()
     }
 }
 
-/// The number of the moves that the text of a file says, where they are as wide as the matrix and
-/// each is a move of it. The rows are tested one by one and none is kept; the text is dropped.
-pub fn count_tested(alloc: Global, matrix: &Grid, text: Vec<u8>, file: u32) -> Result<u32, Refusal>
-    requires { IsGrid matrix.now }
-    ensures count { Follows (λ count. count) result
-        (judged_text file (sheet matrix.now) text.items) }
-    ensures own { BlamesNeither result }
-{
-    match test_moves(alloc, matrix, text.as_slice()) {
-        Ok(Tested::Moves { count }) => Ok(count),
-        Ok(Tested::WidthDiffers { moves }) => Err(Refusal::WidthDiffers {
-            matrix: matrix.cols,
-            moves,
-        }),
-        Ok(Tested::NotAMove { row }) => Err(Refusal::NotAMove { row }),
-        Err(fault) => Err(refusal_of_text(file, fault)),
-    }
+/// Bytes of one's own: an answer, the body of a record or of a file.
+#[derive(Drop)]
+pub struct Body {
+    bytes: Vec<u8>,
 }
 
-/// The number of moves, where they are as wide as the matrix and each is a move of it.
-pub fn count_judged(matrix: &Grid, moves: &Moves) -> Result<u32, Refusal>
-    requires { IsGrid matrix.now }
-    ensures count { Follows (λ count. count) result (judged (sheet matrix.now) moves.now) }
-    ensures width { OnOk result (moves.now.width ≡ matrix.now.cols) }
-    ensures each { OnOk result (All (HasZeroMargins (sheet matrix.now)) moves.now.rows) }
-    ensures own { BlamesNeither result }
-{
-    if matrix.cols != moves.width() {
-        return Err(Refusal::WidthDiffers {
-            matrix: matrix.cols,
-            moves: moves.width(),
-        });
+impl Model for Body {
+    ghost use Rattle.std.specs.Prelude.{List, ℕ};
+
+    ghost Value = { List ℕ };
+
+    ghost view = { λ body. body.bytes.items };
+}
+
+impl Body {
+    /// These bytes.
+    pub fn of(bytes: Vec<u8>) -> Body
+        ensures { result ≡ bytes.items }
+    {
+        Body { bytes }
     }
-    match first_not_move(matrix, moves) {
-        Some(row) => Err(Refusal::NotAMove { row }),
-        None => Ok(moves.len()),
+
+    /// The bytes of a line.
+    pub fn of_line(line: String) -> Body
+        ensures { result ≡ string_bytes line }
+    {
+        Body {
+            bytes: line.into_bytes(),
+        }
+    }
+
+    /// The bytes.
+    pub fn as_slice(&self) -> &[u8]
+        ensures { result.now ≡ self.now }
+    {
+        self.bytes.as_slice()
     }
 }

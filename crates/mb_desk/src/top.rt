@@ -1,49 +1,29 @@
 //! The top call.
-
-ghost use Rattle.std.specs.Prelude.{◌≡◌, ◌≤◌, ◌⊎◌, Err, IfSome, None, Some, ℕ, List};
-ghost use Rattle.mb_desk.specs.Decide.{decide};
-ghost use Rattle.mb_desk.specs.Decision.{Decided, Follows};
+ghost use Rattle.std.specs.Prelude.{◌≡◌, ◌≤◌, ◌≢◌, ◌⊎◌, IfSome, List, None, Ok, Result, ℕ};
+ghost use Rattle.mb_desk.specs.Changes.{changed};
+ghost use Rattle.mb_desk.specs.Commands.{needs_of, plan_of, scene_for};
+ghost use Rattle.mb_desk.specs.Completes.{Completes};
+ghost use Rattle.mb_desk.specs.Decision.{InWorld, scene};
+ghost use Rattle.mb_desk.specs.Ends.{EachLeft};
 ghost use Rattle.mb_desk.specs.Headline.{Answers};
-ghost use Rattle.mb_desk.specs.Reply.{MayReply, Puts, Reply, reply_of};
+ghost use Rattle.mb_desk.specs.Reply.{EndsAndPuts, Puts, no_request};
 ghost use Rattle.mb_desk.specs.Words.{request_of, texts};
-ghost use Rattle.mb_outside.specs.Causes.{HasCause, Rose};
+ghost use Rattle.mb_desk.specs.declared.plans.Plan.{Plan};
+ghost use Rattle.mb_desk.specs.declared.plans.Stop.{Stop};
+ghost use Rattle.mb_outside.specs.Causes.{Rose};
 ghost use Rattle.mb_outside.specs.Sink.{Grows};
+ghost use Rattle.mb_outside.specs.Told.{WhereTold};
 
-use crate::commands::{moves, reach};
-use crate::refusals::Refusal;
-use crate::reply::put_reply;
-use crate::requests::Request;
+use crate::reply::{put_no_request, put_reply};
 use crate::status::Status;
 use crate::words::read_words;
+use crate::work::work;
 use mb_outside::{Files, Gate, Keeper, Sink};
 use std::alloc::Global;
 use std::thread::Threads;
 
-/// The answer to the words, or the first refusal in the order of work.
-fn answer<R: Threads + Sync, F: Files, G: Gate + Sync>(
-    rt: &R,
-    alloc: Global,
-    words: &[String],
-    files: &mut F,
-    gate: &G,
-) -> Result<Vec<u8>, Refusal>
-    ensures decided { IfSome (F.held files.old)
-        (λ held. Follows (λ answer. answer.items) result (decide (texts words.now) held)) }
-    ensures no_request { request_of (texts words.now) ≡ None → result ≡ Err Refusal.Words }
-    ensures words { result ≡ Err Refusal.Words → request_of (texts words.now) ≡ None }
-    ensures cause { HasCause (F.faults files.old) (F.faults files.new)
-        (result ≡ Err Refusal.Outside) }
-    ensures same { F.held files.new ≡ F.held files.old }
-{
-    match read_words(words) {
-        None => Err(Refusal::Words),
-        Some(Request::Moves(words)) => moves::answer(alloc, files, words),
-        Some(Request::Reach(words)) => reach::answer(rt, alloc, files, words, gate),
-    }
-}
-
-/// Does all that the program does: reads the words, does the command's work over the files, and
-/// puts the whole answer, or one refusal line, in one piece.
+/// Does all that the program does: reads the words, does the request's work over the files and the
+/// keeper, and puts the whole answer, or one refusal line, in one piece.
 pub fn desk<R: Threads + Sync, F: Files, K: Keeper, S: Sink, G: Gate + Sync>(
     rt: &R,
     alloc: Global,
@@ -53,38 +33,83 @@ pub fn desk<R: Threads + Sync, F: Files, K: Keeper, S: Sink, G: Gate + Sync>(
     out: &mut S,
     gate: &G,
 ) -> Status
-    // What is put and answered, where the files tell what they hold: the reply to the one decision,
-    // that of want of memory, or that of a fault of the files whose count rose.
-    ensures told { IfSome (F.held files.old) (λ held. (reply : Reply)
-        × MayReply (decide (texts words.now) held) (F.faults files.old) (F.faults files.new) reply
-        × Puts (S.taken out.old) (S.taken out.new) (S.faults out.old) (S.faults out.new)
-        reply result) }
+    // Where the words are a request, its work ends in one of the ways that its plan allows, and the
+    // reply to that is put. Files or rows that the request doesn't need may tell nothing.
+    ensures told { IfSome (request_of (texts words.now)) (λ request. EndsAndPuts
+        (scene_for request
+        (F.held files.old) (F.faults files.old) (K.rows keeper.old) (K.faults keeper.old))
+        (scene_for request
+        (F.held files.new) (F.faults files.new) (K.rows keeper.new) (K.faults keeper.new))
+        (plan_of request)
+        (S.taken out.old) (S.taken out.new) (S.faults out.old) (S.faults out.new) result) }
 
-    // Where the command did its work, its answer has its meaning and was put whole.
-    ensures done { result ≡ Status.Done → IfSome (F.held files.old) (λ held. (answer : List ℕ)
-        × Answers (texts words.now) held answer
-        × Grows (S.taken out.old) (S.taken out.new) answer) }
-
-    // Whether the files tell or not: one reply is put, words are refused exactly where they are no
-    // request, and a fault comes only where a count rose.
-    ensures one_put { (decided : Decided (List ℕ))
-        × Puts (S.taken out.old) (S.taken out.new) (S.faults out.old) (S.faults out.new)
-        (reply_of decided) result }
+    // Where they are none, that is said, and nothing else is touched.
+    ensures no_request { request_of (texts words.now) ≡ None
+        → Puts (S.taken out.old) (S.taken out.new) (S.faults out.old) (S.faults out.new)
+        no_request result }
+    ensures untouched { request_of (texts words.now) ≡ None
+        → scene (F.held files.new) (F.faults files.new) (K.rows keeper.new) (K.faults keeper.new)
+        ≡ scene (F.held files.old) (F.faults files.old) (K.rows keeper.old) (K.faults keeper.old) }
     ensures words { result ≡ Status.Words → request_of (texts words.now) ≡ None }
-    ensures no_request { request_of (texts words.now) ≡ None → (reply : Reply)
-        × ((reply ≡ reply_of (Err Refusal.Words)) ⊎ (reply ≡ reply_of (Err Refusal.Memory)))
-        × Puts (S.taken out.old) (S.taken out.new) (S.faults out.old) (S.faults out.new)
-        reply result }
+
+    // Where the work is done, its change was made and its whole answer was put, which has its
+    // meaning.
+    ensures done { result ≡ Status.Done → IfSome (request_of (texts words.now)) (λ request. InWorld
+        (scene_for request
+        (F.held files.old) (F.faults files.old) (K.rows keeper.old) (K.faults keeper.old))
+        (scene_for request
+        (F.held files.new) (F.faults files.new) (K.rows keeper.new) (K.faults keeper.new))
+        (λ before after. (plan : Plan) × (plan_of request before ≡ Ok plan)
+        × (after ≡ changed plan.change before) × Grows (S.taken out.old) (S.taken out.new) plan.answer)) }
+    ensures means { result ≡ Status.Done → IfSome (request_of (texts words.now)) (λ request. InWorld
+        (scene_for request
+        (F.held files.old) (F.faults files.old) (K.rows keeper.old) (K.faults keeper.old))
+        (scene_for request
+        (F.held files.new) (F.faults files.new) (K.rows keeper.new) (K.faults keeper.new))
+        (λ before after. (answer : List ℕ) × Answers request before answer
+        × Grows (S.taken out.old) (S.taken out.new) answer)) }
+
+    // Where nothing refuses a request and no count of faults rose, it is done, or memory lacks.
+    ensures complete { (Rose (F.faults files.old) (F.faults files.new) → ⊥)
+        → (Rose (K.faults keeper.old) (K.faults keeper.new) → ⊥)
+        → (Rose (S.faults out.old) (S.faults out.new) → ⊥)
+        → IfSome (request_of (texts words.now)) (λ request. InWorld
+        (scene_for request
+        (F.held files.old) (F.faults files.old) (K.rows keeper.old) (K.faults keeper.old))
+        (scene_for request
+        (F.held files.new) (F.faults files.new) (K.rows keeper.new) (K.faults keeper.new))
+        (λ before after. (plan : Plan) → plan_of request before ≡ Ok plan
+        → Completes before after plan (S.taken out.old) (S.taken out.new) result)) }
+
+    // Where it is neither done nor failed, all is as it was. And at each status, of each object
+    // by itself, be the other told or not: it is as one change leaves it.
+    ensures same_files { result ≢ Status.Done → result ≢ Status.Outside
+        → F.held files.new ≡ F.held files.old }
+    ensures same_rows { result ≢ Status.Done → result ≢ Status.Outside
+        → WhereTold (K.rows keeper.old) (K.rows keeper.new) (λ before after. after ≡ before) }
+    ensures each { IfSome (request_of (texts words.now)) (λ request. (made : Result (Unit {0}) Stop)
+        × EachLeft (needs_of request)
+        (F.held files.old) (F.held files.new) (K.rows keeper.old) (K.rows keeper.new) made) }
+    ensures each_done { result ≡ Status.Done → IfSome (request_of (texts words.now)) (λ request.
+        EachLeft (needs_of request)
+        (F.held files.old) (F.held files.new) (K.rows keeper.old) (K.rows keeper.new) (Ok tt)) }
+
+    // A fault comes exactly where a count rose, and no count falls.
     ensures outside { result ≡ Status.Outside
         → Rose (F.faults files.old) (F.faults files.new)
-        ⊎ Rose (S.faults out.old) (S.faults out.new) }
-
-    // What stays.
-    ensures files { F.held files.new ≡ F.held files.old }
+        ⊎ (Rose (K.faults keeper.old) (K.faults keeper.new)
+        ⊎ Rose (S.faults out.old) (S.faults out.new)) }
+    ensures quiet { result ≢ Status.Outside → (F.faults files.new ≡ F.faults files.old)
+        × (K.faults keeper.new ≡ K.faults keeper.old) × (S.faults out.new ≡ S.faults out.old) }
     ensures later_files { F.faults files.old ≤ F.faults files.new }
+    ensures later_keeper { K.faults keeper.old ≤ K.faults keeper.new }
     ensures later_sink { S.faults out.old ≤ S.faults out.new }
-    ensures keeper { K.faults keeper.new ≡ K.faults keeper.old }
 {
-    let decided = answer(rt, alloc, words, files, gate);
-    put_reply(alloc, out, decided)
+    match read_words(words) {
+        None => put_no_request(out),
+        Some(request) => {
+            let ended = work(rt, alloc, files, keeper, &request, gate);
+            put_reply(alloc, out, ended)
+        }
+    }
 }

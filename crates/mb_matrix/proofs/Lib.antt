@@ -2,11 +2,14 @@ pub mod AscendingLists
 pub mod CountBounds
 pub mod FillLaws
 pub mod FirstFaults
+pub mod FirstFound
+pub mod GroupLaws
+pub mod KeptEntries
 pub mod ListedTables
 pub mod MarginBounds
 pub mod MarginLaws
 pub mod MarginSums
 pub mod MovedMargins
 pub mod NoFault
+pub mod NumberedRows
 pub mod RowsAndColumns
-pub mod RowsOfEntries

@@ -1,5 +1,11 @@
 pub mod Ascending
 pub mod Faults
-pub mod Fibre
+pub mod Fiber
 pub mod Laws
+pub mod Limits
+pub mod MarkovBasis
 pub mod Matrix
+pub mod Measure
+pub mod MeasureLaws
+pub mod Scheme
+pub mod loops

@@ -5,7 +5,7 @@ ghost use Rattle.mb_matrix.specs.Matrix.{IsMove, margins_of, row_of};
 ghost use Rattle.mb_tables.specs.Margin.{margin, move_margin};
 
 use crate::matrix::Matrix;
-use mb_tables::{Move, OutOfMemory, Table};
+use mb_tables::{MOST_CELLS, Move, OutOfMemory, Table};
 use std::alloc::Global;
 
 /// A count times an entry of a row.
@@ -96,8 +96,11 @@ impl Matrix {
         requires { length z.now ≡ length self.now.columns }
         ensures { IsTrue result ↔ IsMove self.now z.now }
     {
+        let mut entries = [0; MOST_CELLS as usize];
+        let (entries, _rest) = entries.split_at_mut(z.len() as usize);
+        z.copy_to_slice(entries);
         for row in 0..self.rows() {
-            if sum_of_entries(self.row(row), z.as_slice()) != 0 {
+            if sum_of_entries(self.row(row), entries) != 0 {
                 return false;
             }
         }

@@ -1,15 +1,21 @@
 -- Which tokens are accepted.
-use Rattle.std.proofs.Common.{Err, List, None, Ok, Option, Result, Some, [], ap, arith, cond, eqb, false, leb, length, map, negsuc, pos, refl, subst, true, Bool, ℕ, ℤ, ◌*◌, ◌+◌, ◌≡◌, ◌≤◌, ◌∙◌, ◌∷◌, ◌&&◌}
-use Rattle.std.proofs.lemmas.Bool.{eq-eqb, eqb-true, le-leb, leb-true, ne_eqb}
+use Rattle.std.proofs.Common.{Err, List, None, Ok, Option, Result, Some, [], ap, arith, cond, eqb, false, leb, length, ltb, map, negsuc, pos, refl, subst, sym, true, Bool, ℕ, ℤ, ◌*◌, ◌+◌, ◌<◌, ◌^◌, ◌≡◌, ◌≤◌, ◌∙◌, ◌∷◌, ◌&&◌}
+use Rattle.std.proofs.lemmas.Bool.{eq-eqb, eqb-true, le-leb, leb-true, lt-ltb, ltb-true, ne_eqb}
 use Rattle.std.proofs.lemmas.Int.{ints}
 use Rattle.std.proofs.lemmas.List.Elements.{All-from_recursion, recursion_from_All}
 use Rattle.std.specs.Int.RustNames.{unsigned_abs}
 use Rattle.std.specs.List.{AllByRecursion}
+use Rattle.mb_tables.specs.Answers.{◌>>=◌}
 use Rattle.mb_tables.specs.Entries.{IsEntry}
+use Rattle.mb_tables.specs.Limits.{most_cells}
+use Rattle.mb_tables.specs.Rows.{AreRows, Rows, array_of, rows_of}
+use Rattle.mb_text.specs.Numerals.{number_of}
+use Rattle.mb_moves.proofs.ArraySteps.{and_entries, and_width, array_in-sizes}
 use Rattle.mb_moves.proofs.EntrySteps.{and_others}
-use Rattle.mb_moves.proofs.SheetSteps.{sheet_with}
-use Rattle.mb_moves.specs.Numerals.{number_of}
-use Rattle.mb_moves.specs.Sheet.{IsSheet, Sheet, entries_after, entry_of, entry_within, sheet_of, size_of, size_within, ◌>>=◌}
+use Rattle.mb_tables.proofs.RowsOfEntries.{flat_map-rows_of, length-rows_of}
+use Rattle.mb_moves.proofs.RowsEndToEnd.{all_rows, array_of-end_to_end, end_to_end, entries_end_to_end, rows_made}
+use Rattle.mb_moves.specs.GridText.{array_in, entries_after, entry_of, entry_within, size_of, size_within}
+use Rattle.mb_moves.specs.Laws.{Says}
 use Rattle.mb_moves.specs.declared.fault.GridFault.{GridFault}
 use Rattle.mb_moves.specs.declared.fault.GridFault.TheVariants.{NoSize, TooFew, TooMany, TooWideNumber}
 
@@ -33,29 +39,29 @@ test_on true fault r y e = absurd cc
 test_on false fault r y e = (refl, e)
 
 -- a number within the limits of entries
-entry_in : (z : ℤ) → unsigned_abs z ≤ 2147483647 → IsEntry z
+pub entry_in : (z : ℤ) → unsigned_abs z < 2 ^ 31 → IsEntry z
 entry_in (pos n) h = (omega (arith, ints), omega (arith, ints))
 entry_in (negsuc n) h = (omega (arith, ints), omega (arith, ints))
 
 -- and back
-pub in_entry : (z : ℤ) → IsEntry z → unsigned_abs z ≤ 2147483647
+pub in_entry : (z : ℤ) → IsEntry z → unsigned_abs z < 2 ^ 31
 in_entry (pos n) h = let l = h.1 in omega (arith, ints)
 in_entry (negsuc n) h = let l = h.0 in omega (arith, ints)
 
 -- a number that is an entry
-entry_taken : (place : ℕ) (number : Option ℤ) (z : ℤ) → entry_within place number ≡ Ok z →
+pub entry_taken : (place : ℕ) (number : Option ℤ) (z : ℤ) → entry_within place number ≡ Ok z →
     (number ≡ Some z) × IsEntry z
 entry_taken place None z e = absurd cc
 entry_taken place (Some y) z e =
-    let t = test_ok (leb (unsigned_abs y) 2147483647) y z (TooWideNumber place) e in
-    (ap Some t.1, subst IsEntry t.1 (entry_in y (leb-true _ _ t.0)))
+    let t = test_ok (ltb (unsigned_abs y) (2 ^ 31)) y z (TooWideNumber place) e in
+    (ap Some t.1, subst IsEntry t.1 (entry_in y (ltb-true _ _ t.0)))
 
 -- and back: it is taken as one
-entry_given : (place : ℕ) (number : Option ℤ) (z : ℤ) → number ≡ Some z → IsEntry z →
+pub entry_given : (place : ℕ) (number : Option ℤ) (z : ℤ) → number ≡ Some z → IsEntry z →
     entry_within place number ≡ Ok z
 entry_given place number z e h =
     ap (entry_within place) e
-    ∙ ap (λ b. cond b (Ok z) (Err (TooWideNumber place))) (le-leb _ _ (in_entry z h))
+    ∙ ap (λ b. cond b (Ok z) (Err (TooWideNumber place))) (lt-ltb _ _ (in_entry z h))
 
 -- what tokens that are all entries say, from so many found on
 abbrev TakesAll : ℕ → ℕ → List (List ℕ) → List ℤ → Type 0
@@ -63,9 +69,9 @@ TakesAll wanted found tokens zs =
     (map number_of tokens ≡ map Some zs) × (found + length zs ≡ wanted) × AllByRecursion IsEntry zs
 
 -- tokens that are all entries
-pub entries_taken : (wanted found : ℕ) (tokens : List (List ℕ)) (zs : List ℤ) →
+entries_taken : (wanted found : ℕ) (tokens : List (List ℕ)) (zs : List ℤ) →
     entries_after wanted found tokens ≡ Ok zs →
-    (map number_of tokens ≡ map Some zs) × (found + length zs ≡ wanted) × AllByRecursion IsEntry zs
+    TakesAll wanted found tokens zs
 unfolding entries_after
 entries_taken wanted found [] zs e =
     let t = test_ok (eqb found wanted) [] zs (TooFew found wanted) e in
@@ -88,7 +94,7 @@ entries_taken wanted found (token ∷ others) zs e =
     )
 
 -- and so many entries are taken
-pub entries_given : (wanted found : ℕ) (tokens : List (List ℕ)) (zs : List ℤ) →
+entries_given : (wanted found : ℕ) (tokens : List (List ℕ)) (zs : List ℤ) →
     map number_of tokens ≡ map Some zs → found + length zs ≡ wanted → AllByRecursion IsEntry zs →
     entries_after wanted found tokens ≡ Ok zs
 unfolding entries_after
@@ -117,7 +123,7 @@ both_true : (a b : Bool) → a ≡ true → b ≡ true → (a && b) ≡ true
 both_true a b e f = ap (λ x. x && b) e ∙ f
 
 -- a number that is a size
-size_taken : (lowest highest : ℕ) (number : Option ℤ) (n : ℕ) →
+pub size_taken : (lowest highest : ℕ) (number : Option ℤ) (n : ℕ) →
     size_within lowest highest number ≡ Ok n →
     (number ≡ Some (pos n)) × (lowest ≤ n) × (n ≤ highest)
 size_taken lowest highest None n e = absurd cc
@@ -131,85 +137,67 @@ size_taken lowest highest (Some (pos k)) n e =
     (ap (λ m. Some (pos m)) t.1, omega arith, omega arith)
 
 -- and back: it is taken as one
-size_given : (lowest highest : ℕ) (number : Option ℤ) (n : ℕ) →
+pub size_given : (lowest highest : ℕ) (number : Option ℤ) (n : ℕ) →
     number ≡ Some (pos n) → lowest ≤ n → n ≤ highest → size_within lowest highest number ≡ Ok n
 size_given lowest highest number n e low high =
     ap (size_within lowest highest) e
     ∙ ap (λ b. cond b (Ok n) (Err NoSize))
     (both_true (leb lowest n) (leb n highest) (le-leb lowest n low) (le-leb n highest high))
 
--- the numbers of the tokens are those of a sheet
-abbrev Says : List (List ℕ) → Sheet → Type 0
-Says tokens sheet =
-    map number_of tokens ≡ map Some (pos sheet.rows ∷ pos sheet.cols ∷ sheet.entries)
-
--- the sheet of the sizes, and of the entries of these tokens
-abbrev and_entries : List (List ℕ) → ℕ → ℕ → Result Sheet GridFault
-and_entries others rows cols =
-    entries_after (rows * cols) 0 others >>= λ entries. Ok (sheet_with rows cols entries)
-
--- the same, where the second size is a token too
-abbrev and_cols : List ℕ → List (List ℕ) → ℕ → Result Sheet GridFault
-and_cols second others rows = size_of 1 64 second >>= and_entries others rows
-
--- the sheet of two sizes and entries, and what its tokens say
-sheet_made : (lowest highest : ℕ) (first second : List ℕ) (others : List (List ℕ)) (rows cols : ℕ)
-    (entries : List ℤ) → size_of lowest highest first ≡ Ok rows → size_of 1 64 second ≡ Ok cols →
-    entries_after (rows * cols) 0 others ≡ Ok entries →
-    IsSheet lowest highest (sheet_with rows cols entries)
-    × Says (first ∷ second ∷ others) (sheet_with rows cols entries)
-sheet_made lowest highest first second others rows cols entries e f g =
-    let r = size_taken lowest highest (number_of first) rows e in
-    let c = size_taken 1 64 (number_of second) cols f in
-    let all = entries_taken (rows * cols) 0 others entries g in (
-      record {
-        some_rows = r.1;
-        few_rows = r.2;
-        some_cols = c.1;
-        few_cols = c.2;
-        full = omega (arith, all.1);
-        each = All-from_recursion IsEntry entries all.2;
-      },
+-- the array of two sizes and entries, and what its tokens say
+array_made : (lowest highest : ℕ) (first second : List ℕ) (others : List (List ℕ))
+    (count width : ℕ) (entries : List ℤ) →
+    size_of lowest highest first ≡ Ok count → size_of 1 most_cells second ≡ Ok width →
+    entries_after (count * width) 0 others ≡ Ok entries →
+    AreRows lowest highest (array_of width count entries)
+    × Says (first ∷ second ∷ others) (array_of width count entries)
+array_made lowest highest first second others count width entries e f g =
+    let r = size_taken lowest highest (number_of first) count e in
+    let c = size_taken 1 most_cells (number_of second) width f in
+    let all = entries_taken (count * width) 0 others entries g in
+    let full : length entries ≡ count * width = omega (arith, all.1) in (
+      rows_made lowest highest width count entries r.1 r.2 c.1 c.2 full
+          (All-from_recursion IsEntry entries all.2),
       ap (λ number. number ∷ number_of second ∷ map number_of others) r.0
-          ∙ ap (λ number. Some (pos rows) ∷ number ∷ map number_of others) c.0
-          ∙ ap (λ numbers. Some (pos rows) ∷ Some (pos cols) ∷ numbers) all.0,
+          ∙ ap (λ number. Some (pos count) ∷ number ∷ map number_of others) c.0
+          ∙ ap (λ numbers. Some (pos count) ∷ Some (pos width) ∷ numbers) all.0
+          ∙ ap (λ n. map Some (pos n ∷ pos width ∷ entries))
+          (sym (length-rows_of width count entries))
+          ∙ ap (λ zs. map Some (pos (length (rows_of width count entries)) ∷ pos width ∷ zs))
+          (sym (flat_map-rows_of width count entries full)),
     )
 
--- tokens that are a sheet
-pub sheet_taken : (lowest highest : ℕ) (tokens : List (List ℕ)) (sheet : Sheet) →
-    sheet_of lowest highest tokens ≡ Ok sheet →
-    IsSheet lowest highest sheet
-    × (map number_of tokens ≡ map Some (pos sheet.rows ∷ pos sheet.cols ∷ sheet.entries))
-unfolding sheet_of
-sheet_taken lowest highest [] sheet e = absurd cc
-sheet_taken lowest highest (first ∷ []) sheet e = absurd cc
-sheet_taken lowest highest (first ∷ second ∷ others) sheet e =
-    let a = bind_ok (size_of lowest highest first) (and_cols second others) sheet e in
-    let b = bind_ok (size_of 1 64 second) (and_entries others a.0) sheet a.2 in
-    let d = bind_ok (entries_after (a.0 * b.0) 0 others) (λ zs. Ok (sheet_with a.0 b.0 zs)) sheet
+-- tokens that are an array
+pub array_taken : (lowest highest : ℕ) (tokens : List (List ℕ)) (array : Rows) →
+    array_in lowest highest tokens ≡ Ok array → AreRows lowest highest array × Says tokens array
+unfolding array_in
+array_taken lowest highest [] array e = absurd cc
+array_taken lowest highest (first ∷ []) array e = absurd cc
+array_taken lowest highest (first ∷ second ∷ others) array e =
+    let a = bind_ok (size_of lowest highest first) (and_width second others) array e in
+    let b = bind_ok (size_of 1 most_cells second) (and_entries others a.0) array a.2 in
+    let d = bind_ok (entries_after (a.0 * b.0) 0 others) (λ zs. Ok (array_of b.0 a.0 zs)) array
     b.2 in
-    let is : sheet_with a.0 b.0 d.0 ≡ sheet = cc in
-    let made = sheet_made lowest highest first second others a.0 b.0 d.0 a.1 b.1 d.1 in
-    subst (λ (s : Sheet). IsSheet lowest highest s × Says (first ∷ second ∷ others) s) is made
+    let is : array_of b.0 a.0 d.0 ≡ array = cc in
+    let made = array_made lowest highest first second others a.0 b.0 d.0 a.1 b.1 d.1 in
+    subst (λ (r : Rows). AreRows lowest highest r × Says (first ∷ second ∷ others) r) is made
 
--- and a sheet is taken
-pub sheet_given : (lowest highest : ℕ) (tokens : List (List ℕ)) (sheet : Sheet) →
-    IsSheet lowest highest sheet →
-    map number_of tokens ≡ map Some (pos sheet.rows ∷ pos sheet.cols ∷ sheet.entries) →
-    sheet_of lowest highest tokens ≡ Ok sheet
-unfolding sheet_of
-sheet_given lowest highest [] sheet h e = absurd cc
-sheet_given lowest highest (first ∷ []) sheet h e = absurd cc
-sheet_given lowest highest (first ∷ second ∷ others) sheet h e =
-    let one : number_of first ≡ Some (pos sheet.rows) = cc in
-    let two : number_of second ≡ Some (pos sheet.cols) = cc in
-    let more : map number_of others ≡ map Some sheet.entries = cc in
-    let rows = size_given lowest highest (number_of first) sheet.rows one h.some_rows h.few_rows in
-    let cols = size_given 1 64 (number_of second) sheet.cols two h.some_cols h.few_cols in
-    let each = recursion_from_All IsEntry sheet.entries h.each in
-    let all : 0 + length sheet.entries ≡ sheet.rows * sheet.cols = omega (arith, h.full) in
-    let entries = entries_given (sheet.rows * sheet.cols) 0 others sheet.entries more all each in
-    ap (λ (r : Result ℕ GridFault). r >>= and_cols second others) rows
-    ∙ ap (λ (r : Result ℕ GridFault). r >>= and_entries others sheet.rows) cols
-    ∙ ap (λ (r : Result (List ℤ) GridFault). r >>= λ zs. Ok (sheet_with sheet.rows sheet.cols zs))
-    entries
+-- and an array is taken
+pub array_given : (lowest highest : ℕ) (tokens : List (List ℕ)) (array : Rows) →
+    AreRows lowest highest array → Says tokens array → array_in lowest highest tokens ≡ Ok array
+array_given lowest highest [] array h e = absurd cc
+array_given lowest highest (first ∷ []) array h e = absurd cc
+array_given lowest highest (first ∷ second ∷ others) array h e =
+    let count = length array.rows in
+    let entries = end_to_end array.rows in
+    let one : number_of first ≡ Some (pos count) = cc in
+    let two : number_of second ≡ Some (pos array.width) = cc in
+    let more : map number_of others ≡ map Some entries = cc in
+    let rows = size_given lowest highest (number_of first) count one h.some h.few in
+    let cols = size_given 1 most_cells (number_of second) array.width two h.positive h.narrow in
+    let size = all_rows count array.width array.rows refl h.each in
+    let each = recursion_from_All IsEntry entries (entries_end_to_end array.rows h.entries) in
+    array_in-sizes lowest highest first second others count array.width rows cols
+    ∙ ap (λ (r : Result (List ℤ) GridFault). r >>= λ zs. Ok (array_of array.width count zs))
+    (entries_given (count * array.width) 0 others entries more (omega (arith, size)) each)
+    ∙ ap Ok (array_of-end_to_end array count array.width refl refl h.each)

@@ -1,31 +1,28 @@
 -- Entries from left to right, one after the other.
-use Rattle.std.proofs.Common.{Err, List, Ok, Result, [], ap, cond, refl, sym, ℕ, ℤ, ◌+◌, ◌++◌, ◌≡◌, ◌≢◌, ◌∙◌, ◌∷◌, append_assoc}
+use Rattle.std.proofs.Common.{Err, List, None, Ok, Option, Result, Some, [], ap, cond, refl, sym, ℕ, ℤ, ◌+◌, ◌++◌, ◌≡◌, ◌≢◌, ◌∙◌, ◌∷◌, append_assoc}
 use Rattle.std.proofs.lemmas.Bool.{eq-eqb, ne_eqb}
-use Rattle.mb_moves.specs.Reads.{Fails, in_front}
-use Rattle.mb_moves.specs.Sheet.{entries_after, entry_of, ◌>>=◌}
+use Rattle.mb_tables.specs.Answers.{IsRefused, ◌>>=◌}
+use Rattle.mb_moves.specs.GridText.{cause, entries_after, entry_of}
+use Rattle.mb_moves.specs.loops.Reads.{in_front}
 use Rattle.mb_moves.specs.declared.fault.GridFault.{GridFault}
 use Rattle.mb_moves.specs.declared.fault.GridFault.TheVariants.{BadNumber, NoSize, OutOfMemory, TooFew, TooMany, TooWideNumber}
 
--- a fault of one reading is that of another that stops where the first does
-pub fails_on : {X Y : Type 0} (fault : GridFault) (first : Result X GridFault)
-    (whole : Result Y GridFault) →
-    Fails fault first → (first ≡ Err fault → whole ≡ Err fault) → Fails fault whole
-fails_on NoSize first whole h on = on h
-fails_on (BadNumber token) first whole h on = on h
-fails_on (TooWideNumber token) first whole h on = on h
-fails_on (TooFew found wanted) first whole h on = on h
-fails_on (TooMany wanted) first whole h on = on h
-fails_on OutOfMemory first whole h on = tt
+-- a refusal of one reading is that of another that stops where the first does
+pub refused_on : {X Y : Type 0} (cause : Option GridFault) (first : Result X GridFault)
+    (whole : Result Y GridFault) → IsRefused cause first →
+    ((fault : GridFault) → first ≡ Err fault → whole ≡ Err fault) → IsRefused cause whole
+refused_on None first whole h on = tt
+refused_on (Some fault) first whole h on = on fault h
 
 -- a fault that a text has is the one to answer
-pub fails_with : {Y : Type 0} (fault : GridFault) (says : Result Y GridFault) → says ≡ Err fault →
-    Fails fault says
-fails_with NoSize says e = e
-fails_with (BadNumber token) says e = e
-fails_with (TooWideNumber token) says e = e
-fails_with (TooFew found wanted) says e = e
-fails_with (TooMany wanted) says e = e
-fails_with OutOfMemory says e = tt
+pub refused_with : {Y : Type 0} (fault : GridFault) (says : Result Y GridFault) →
+    says ≡ Err fault → IsRefused (cause fault) says
+refused_with NoSize says e = e
+refused_with (BadNumber token) says e = e
+refused_with (TooWideNumber token) says e = e
+refused_with (TooFew found wanted) says e = e
+refused_with (TooMany wanted) says e = e
+refused_with OutOfMemory says e = tt
 
 -- nothing in front
 pub in_front-nil : (left : Result (List ℤ) GridFault) → in_front [] left ≡ left
@@ -37,10 +34,6 @@ pub in_front-in_front : (first second : List ℤ) (left : Result (List ℤ) Grid
     in_front first (in_front second left) ≡ in_front (first ++ second) left
 in_front-in_front first second (Ok entries) = ap Ok (sym (append_assoc first second entries))
 in_front-in_front first second (Err fault) = refl
-
--- a fault after entries
-pub in_front-err : (front : List ℤ) (fault : GridFault) → in_front front (Err fault) ≡ Err fault
-in_front-err front fault = refl
 
 -- an entry, and those of the tokens after it
 abbrev pub and_others : ℕ → ℕ → List (List ℕ) → ℤ → Result (List ℤ) GridFault

@@ -1,9 +1,8 @@
 -- How large products and their sums are.
-use Rattle.std.proofs.Common.{arith, neg_ℤ, negsuc, pos, ℕ, ℤ, ◌*ℤ◌, ◌*◌, ◌^◌, ◌≤ℤ◌, ◌≤◌}
+use Rattle.std.proofs.Common.{arith, neg_ℤ, negsuc, pos, ℕ, ℤ, ◌*ℤ◌, ◌*◌, ◌+◌, ◌<◌, ◌^◌, ◌≤ℤ◌, ◌≤◌}
 use Rattle.std.proofs.lemmas.Int.{ints, unsigned_abs-mul}
-use Rattle.std.proofs.Math.Nat.{mul-le-mul}
+use Rattle.std.proofs.Math.Nat.{mul-le-mul, mul-le-mul_right}
 use Rattle.std.specs.Int.RustNames.{unsigned_abs}
-use Rattle.mb_moves.specs.Support.{IsSmall}
 use mir.Syntax.{w32}
 use mir.Val.{SFits}
 
@@ -27,10 +26,13 @@ pub abs_product : (a b : ℤ) (m n : ℕ) → unsigned_abs a ≤ m → unsigned_
     unsigned_abs (a *ℤ b) ≤ m * n
 abs_product a b m n h k = rw (unsigned_abs-mul a b) (mul-le-mul h k)
 
--- a product of a small number and a number of 32 bits
-pub abs_small_product : (a b : ℤ) → IsSmall a → SFits w32 b → unsigned_abs (a *ℤ b) ≤ 2 ^ 55
-abs_small_product a b h f = abs_product a b (2 ^ 24) (2 ^ 31) (omega arith) (abs_fits b f)
-
 -- a product of two numbers of 32 bits
-pub abs_wide_product : (a b : ℤ) → SFits w32 a → SFits w32 b → unsigned_abs (a *ℤ b) ≤ 2 ^ 62
-abs_wide_product a b f g = abs_product a b (2 ^ 31) (2 ^ 31) (abs_fits a f) (abs_fits b g)
+pub abs_entry_product : (a b : ℤ) → SFits w32 a → SFits w32 b → unsigned_abs (a *ℤ b) ≤ 2 ^ 62
+abs_entry_product a b f g = abs_product a b (2 ^ 31) (2 ^ 31) (abs_fits a f) (abs_fits b g)
+
+-- a row of a grid ends within its entries
+pub row_within : (row rows cols : ℕ) → row < rows → row * cols + cols ≤ rows * cols
+row_within row rows cols l =
+    let next : row + 1 ≤ rows = omega arith in
+    let bound = mul-le-mul_right cols next in
+    omega arith

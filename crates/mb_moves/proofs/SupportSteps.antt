@@ -1,15 +1,16 @@
 -- A margin of a move cell by cell, over the cells where it isn't 0.
-use Rattle.std.proofs.Common.{List, [], eqb, inl, inr, zero, false, negsuc, suc, true, ap, arith, cond, drop, get_or, length, pos, refl, sym, ℕ, ℤ, neg_ℤ, ◌*◌, ◌*ℤ◌, ◌+ℤ◌, ◌+◌, ◌<◌, ◌≡◌, ◌≢◌, ◌≤◌, ◌∙◌, ◌∷◌, ◌⊎◌}
+use Rattle.std.proofs.Common.{List, Some, [], eqb, inl, inr, zero, false, negsuc, suc, true, ap, arith, cond, drop, get_or, length, pos, refl, slice_get, sym, ℕ, ℤ, neg_ℤ, ◌*◌, ◌*ℤ◌, ◌+ℤ◌, ◌+◌, ◌<◌, ◌≡◌, ◌≢◌, ◌≤◌, ◌∙◌, ◌∷◌, ◌⊎◌}
 use Rattle.std.proofs.lemmas.Int.{ints}
 use Rattle.std.proofs.lemmas.List.{at_drop_all, at_drop_more, drop_all, drop_more}
 use Rattle.std.proofs.lemmas.Bool.{ne_eqb}
+use Rattle.std.proofs.lemmas.Option.{get_or_from_slice_get}
 use Rattle.std.proofs.lemmas.List.Elements.{All-from_recursion}
 use Rattle.std.specs.Int.RustNames.{unsigned_abs}
 use Rattle.std.specs.List.{All, AllByRecursion}
 use Rattle.mb_tables.specs.Margin.{move_margin}
 use mir.Syntax.{w32}
 use mir.Val.{SFits, of_z}
-use Rattle.mb_moves.specs.Support.{cells_margin, support}
+use Rattle.mb_moves.specs.loops.Support.{cells_margin, support}
 
 module _ (row move : List ℤ) (cells : List ℕ) where
   -- one more cell
@@ -92,19 +93,6 @@ support_within move =
     All-from_recursion (λ k. k < length move) (support 0 move)
     (support_below (length move) 0 move (omega arith))
 
--- and has no more cells than it
-pub length-support : (cell : ℕ) (move : List ℤ) → length (support cell move) ≤ length move
-unfolding support
-length-support cell [] = omega arith
-length-support cell (z ∷ move) =
-    let others = length-support (cell + 1) move in
-    elim (eqb (unsigned_abs z) 0)
-    as (λ test. length
-    (cond test (support (cell + 1) move) (cell ∷ support (cell + 1) move)) ≤ suc (length move)) [
-      | true ↦ omega arith
-      | false ↦ omega arith
-    ]
-
 -- a number is 0 or not
 zero_or_not : (z : ℤ) → (z ≡ pos 0) ⊎ (z ≢ pos 0)
 zero_or_not (pos zero) = inl refl
@@ -159,7 +147,15 @@ pub support_cells : (cells : List ℕ) (row move : List ℤ) → cells ≡ suppo
 support_cells cells row move e same = rw (e, same) (support_within move)
 
 -- and the sum over it
-pub support_margin : (cells : List ℕ) (row move : List ℤ) → cells ≡ support 0 move →
+support_margin : (cells : List ℕ) (row move : List ℤ) → cells ≡ support 0 move →
     length row ≡ length move →
     cells_margin row move cells ≡ move_margin row move
 support_margin cells row move e same = rw e (cells_margin-support row move same)
+
+-- a margin over the support is that of the row with this number
+pub margin_of_row : (cells : List ℕ) (rows : List (List ℤ)) (i : ℕ) (row d move : List ℤ) →
+    cells ≡ support 0 move → slice_get rows i ≡ Some row → length row ≡ length move →
+    cells_margin row move cells ≡ move_margin (get_or rows i d) move
+margin_of_row cells rows i row d move e there same =
+    support_margin cells row move e same
+    ∙ ap (λ r. move_margin r move) (sym (get_or_from_slice_get rows i row d there))

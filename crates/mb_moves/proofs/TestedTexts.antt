@@ -1,13 +1,13 @@
 -- What a whole text says of its rows, from what its entries say.
-use Rattle.std.proofs.Common.{Err, List, None, Ok, Option, Result, Some, ap, eq-eqb, length, refl, ℕ, ℤ, ◌*◌, ◌≡◌, ◌≢◌, ◌∙◌}
+use Rattle.std.proofs.Common.{Err, List, None, Ok, Option, Result, Some, ap, eq-eqb, length, refl, sym, ℕ, ℤ, ◌*◌, ◌≡◌, ◌≢◌, ◌∙◌}
 use Rattle.std.proofs.lemmas.Bool.{ne_eqb}
-use Rattle.mb_moves.proofs.EntrySteps.{fails_on}
-use Rattle.mb_moves.proofs.SheetSteps.{sheet_with}
-use Rattle.mb_moves.proofs.WrittenSteps.{length-rows_of}
-use Rattle.mb_moves.specs.Reads.{Fails}
-use Rattle.mb_moves.specs.Sheet.{Sheet, entries_after, in_rows, moves_of, rows_of, sheet_of, ◌>>=◌}
-use Rattle.mb_moves.specs.Testing.{entries_checked, first_wrong, tested_of, tested_text, verdict, wrong_row}
-use Rattle.mb_moves.specs.Text.{tokens}
+use Rattle.mb_tables.specs.Answers.{IsRefused, ◌>>=◌}
+use Rattle.mb_tables.specs.Rows.{Rows, array_of, rows_of}
+use Rattle.mb_moves.proofs.EntrySteps.{refused_on}
+use Rattle.mb_tables.proofs.RowsOfEntries.{length-rows_of}
+use Rattle.mb_moves.specs.GridText.{entries_after, moves_of}
+use Rattle.mb_moves.specs.Testing.{first_wrong, tested_of, tested_text, verdict}
+use Rattle.mb_moves.specs.loops.RowTests.{entries_checked, wrong_row}
 use Rattle.mb_moves.specs.declared.fault.GridFault.{GridFault}
 use Rattle.mb_moves.specs.declared.testing.Tested.{Tested}
 use Rattle.mb_moves.specs.declared.testing.Tested.TheVariants.{Moves, NotAMove, WidthDiffers}
@@ -28,15 +28,15 @@ verdict-told rows count first None size e = ap (verdict rows) e ∙ ap Moves siz
 verdict-told rows count first (Some row) size e = ap (verdict rows) e
 
 -- what is said of the rows, from all entries
-said : Sheet → ℕ → ℕ → Result (List ℤ) GridFault → Result Tested GridFault
+said : Rows → ℕ → ℕ → Result (List ℤ) GridFault → Result Tested GridFault
 said matrix rows cols all =
-    all >>= λ entries. Ok (tested_of matrix (in_rows (sheet_with rows cols entries)))
+    all >>= λ entries. Ok (tested_of matrix (array_of cols rows entries))
 
-module _ (matrix : Sheet) (rows cols : ℕ) where
-  -- it is what is said of the moves of the sheet
+module _ (matrix : Rows) (rows cols : ℕ) where
+  -- it is what is said of the array
   said_of : (all : Result (List ℤ) GridFault) →
-      (((all >>= λ entries. Ok (sheet_with rows cols entries))
-      >>= λ sheet. Ok (in_rows sheet)) >>= λ moves. Ok (tested_of matrix moves))
+      ((all >>= λ entries. Ok (array_of cols rows entries))
+      >>= λ moves. Ok (tested_of matrix moves))
       ≡ said matrix rows cols all
   unfolding said
   said_of (Ok entries) = refl
@@ -51,80 +51,59 @@ module _ (matrix : Sheet) (rows cols : ℕ) where
   said_fault make (Err first) fault e = let same : first ≡ fault = cc in ap Err same
 
   -- another width
-  said_wide : (all : Result (List ℤ) GridFault) → matrix.cols ≢ cols →
+  said_wide : (all : Result (List ℤ) GridFault) → matrix.width ≢ cols →
       checked all ≡ Ok tt → said matrix rows cols all ≡ Ok (WidthDiffers cols)
   unfolding said
-  said_wide (Ok entries) wide e = rw (ne_eqb matrix.cols cols wide) refl
+  said_wide (Ok entries) wide e = rw (ne_eqb matrix.width cols wide) refl
   said_wide (Err fault) wide e = absurd (cc)
 
   -- the same width
-  said_same : (all : Result (List ℤ) GridFault) (found : Option ℕ) → matrix.cols ≡ cols →
-      (all >>= λ entries. Ok (first_wrong matrix 1 (rows_of cols rows entries))) ≡ Ok found →
+  said_same : (all : Result (List ℤ) GridFault) (found : Option ℕ) → cols ≡ matrix.width →
+      (all >>= λ entries. Ok (first_wrong matrix.rows 1 (rows_of cols rows entries))) ≡ Ok found →
       said matrix rows cols all ≡ Ok (told rows found)
   unfolding said
   said_same (Ok entries) found same e =
       let size = length-rows_of cols rows entries in
-      rw (eq-eqb matrix.cols cols same)
+      rw (eq-eqb matrix.width cols (sym same))
       (ap Ok (verdict-told (rows_of cols rows entries) rows _ found size (cc)))
   said_same (Err fault) found same e = absurd (cc)
 
--- the sheet of a text, from its sizes and the tokens after them
-abbrev pub HasSheet : List ℕ → ℕ → ℕ → List (List ℕ) → Type 0
-HasSheet text rows cols left =
-    sheet_of 0 1000064 (tokens text)
-    ≡ (entries_after (rows * cols) 0 left >>= λ entries. Ok (sheet_with rows cols entries))
+-- the array of a text, from its sizes and the tokens after them
+abbrev pub HasArray : List ℕ → ℕ → ℕ → List (List ℕ) → Type 0
+HasArray text rows cols left =
+    moves_of text
+    ≡ (entries_after (rows * cols) 0 left >>= λ entries. Ok (array_of cols rows entries))
 
-module _ (matrix : Sheet) (text : List ℕ) (rows cols : ℕ) (left : List (List ℕ))
-    (sizes : HasSheet text rows cols left) where
+module _ (matrix : Rows) (text : List ℕ) (rows cols : ℕ) (left : List (List ℕ))
+    (sizes : HasArray text rows cols left) where
   -- what the text says, from its entries
   from_entries :
       tested_text matrix text ≡ said matrix rows cols (entries_after (rows * cols) 0 left)
-  unfolding moves_of
   from_entries =
-      let say : Result Sheet GridFault → Result Tested GridFault =
-      λ s. (s >>= λ sheet. Ok (in_rows sheet)) >>= λ moves. Ok (tested_of matrix moves) in
-      ap say sizes ∙ said_of matrix rows cols (entries_after (rows * cols) 0 left)
+      ap (λ (r : Result Rows GridFault). r >>= λ moves. Ok (tested_of matrix moves)) sizes
+      ∙ said_of matrix rows cols (entries_after (rows * cols) 0 left)
 
   -- the first fault of the entries is that of the text
-  pub text_fault : {Y : Type 0} (make : List ℤ → Y) (fault : GridFault) →
-      Fails fault (entries_after (rows * cols) 0 left >>= λ entries. Ok (make entries)) →
-      Fails fault (tested_text matrix text)
-  text_fault make fault h =
-      fails_on fault (entries_after (rows * cols) 0 left >>= λ entries. Ok (make entries))
+  pub text_fault : {Y : Type 0} (make : List ℤ → Y) (cause : Option GridFault) →
+      IsRefused cause (entries_after (rows * cols) 0 left >>= λ entries. Ok (make entries)) →
+      IsRefused cause (tested_text matrix text)
+  text_fault make cause h =
+      refused_on cause (entries_after (rows * cols) 0 left >>= λ entries. Ok (make entries))
       (tested_text matrix text) h
-      (λ e. from_entries ∙ said_fault matrix rows cols make _ fault e)
+      (λ fault e. from_entries ∙ said_fault matrix rows cols make _ fault e)
 
   -- another width
-  pub text_wide : matrix.cols ≢ cols → entries_checked (rows * cols) left ≡ Ok tt →
+  pub text_wide : matrix.width ≢ cols → entries_checked (rows * cols) left ≡ Ok tt →
       tested_text matrix text ≡ Ok (WidthDiffers cols)
   text_wide wide e = from_entries ∙ said_wide matrix rows cols _ wide e
 
-module _ (matrix : Sheet) (text : List ℕ) (rows cols : ℕ) (left : List (List ℕ))
-    (same : cols ≡ matrix.cols) (sizes : HasSheet text rows cols left) where
-  -- the same width
-  with_width : HasSheet text rows matrix.cols left
-  with_width =
-      let read : ℕ → Result Sheet GridFault =
-      λ n. entries_after (rows * n) 0 left >>= λ entries. Ok (sheet_with rows n entries) in
-      sizes ∙ ap read same
-
-  -- and each row is a move
-  pub text_moves : wrong_row matrix rows left ≡ Ok None →
+  -- the same width, and each row is a move
+  pub text_moves : cols ≡ matrix.width → wrong_row matrix.rows cols rows left ≡ Ok None →
       tested_text matrix text ≡ Ok (Moves rows)
-  text_moves e =
-      from_entries matrix text rows matrix.cols left with_width
-      ∙ said_same matrix rows matrix.cols _ None refl e
+  text_moves same e = from_entries ∙ said_same matrix rows cols _ None same e
 
   -- or one is none
-  pub text_not_a_move : (row : ℕ) → wrong_row matrix rows left ≡ Ok (Some row) →
+  pub text_not_a_move : cols ≡ matrix.width → (row : ℕ) →
+      wrong_row matrix.rows cols rows left ≡ Ok (Some row) →
       tested_text matrix text ≡ Ok (NotAMove row)
-  text_not_a_move row e =
-      from_entries matrix text rows matrix.cols left with_width
-      ∙ said_same matrix rows matrix.cols _ (Some row) refl e
-
-  -- or the entries have a fault
-  pub text_row_fault : (fault : GridFault) → Fails fault (wrong_row matrix rows left) →
-      Fails fault (tested_text matrix text)
-  text_row_fault fault h =
-      text_fault matrix text rows matrix.cols left with_width
-      (λ entries. first_wrong matrix 1 (rows_of matrix.cols rows entries)) fault h
+  text_not_a_move same row e = from_entries ∙ said_same matrix rows cols _ (Some row) same e

@@ -1,46 +1,30 @@
 -- The test of a move, and the first row that is none.
-use Rattle.std.proofs.Common.{All, Bool, List, None, Some, [], arith, cond, false, get_or, inl, inr, length, pos, refl, suc, take, true, zero, ℕ, ℤ, ◌&&◌, ◌+◌, ◌<◌, ◌∙◌, ◌∷◌, ◌≡◌, ◌⊎◌}
+use Rattle.std.proofs.Common.{All, Bool, List, None, Some, [], arith, cond, false, get_or, length, pos, refl, suc, take, true, zero, ℕ, ℤ, ◌+◌, ◌<◌, ◌∙◌, ◌∷◌, ◌≡◌}
 use Rattle.std.proofs.lemmas.Bool.Decides.{Decides-int_eq}
 use Rattle.std.proofs.lemmas.List.Elements.{All-from_recursion}
+use Rattle.std.proofs.lemmas.List.Sums.{AllPass-from_list_all, list_all-from_AllPass}
+use Rattle.std.specs.Ordering.{int_eq}
 use Rattle.std.specs.List.{AllByRecursion}
-use Rattle.mb_moves.specs.Sheet.{Sheet}
-use Rattle.mb_moves.specs.Testing.{HasZeroMargins, all_below, first_wrong, is_move, sheet_row}
+use Rattle.mb_tables.specs.Rows.{IsMoveOf}
+use Rattle.mb_moves.specs.Testing.{first_wrong, is_move}
 use Rattle.mb_tables.specs.Margin.{move_margin}
 
--- a conjunction that is true has true parts
-and_true : (a b : Bool) → (a && b) ≡ true → (a ≡ true) × (b ≡ true)
-and_true true b e = (refl, e)
-and_true false b e = absurd (cc)
+module _ (matrix : List (List ℤ)) (move : List ℤ) where
+  -- the test of one margin
+  abbrev is_kept : List ℤ → Bool
+  is_kept row = int_eq (move_margin row move) (pos 0)
 
--- what passes at each number below n passes at one
-pub all_below-at : (test : ℕ → Bool) (n : ℕ) → all_below test n ≡ true →
-    (i : ℕ) → i < n → test i ≡ true
-all_below-at test zero e i l = absurd (omega arith)
-all_below-at test (suc n) e i l =
-    let parts = and_true (all_below test n) (test n) e in
-    let cases : (i < n) ⊎ (i ≡ n) = grind arith in
-    elim cases [ inl m ↦ all_below-at test n parts.0 i m | inr f ↦ rw f parts.1 ]
+  -- a row that passes the test is a move
+  pub is_move-sound : is_move matrix move ≡ true → IsMoveOf matrix move
+  is_move-sound e k d l =
+      (Decides-int_eq (move_margin (get_or matrix k d) move) (pos 0)).0
+      (AllPass-from_list_all is_kept matrix e k d l)
 
--- and the other way round
-pub all_below-all : (test : ℕ → Bool) (n : ℕ) → ((i : ℕ) → i < n → test i ≡ true) →
-    all_below test n ≡ true
-all_below-all test zero h = refl
-all_below-all test (suc n) h =
-    rw (all_below-all test n (λ i l. h i (omega arith)), h n (omega arith)) refl
-
--- a row that passes the test has margins 0
-pub is_move-zero : (matrix : Sheet) (move : List ℤ) → is_move matrix move ≡ true →
-    HasZeroMargins matrix move
-is_move-zero matrix move e i l =
-    (Decides-int_eq (move_margin (sheet_row matrix i) move) (pos 0)).0
-    (all_below-at _ matrix.rows e i l)
-
--- a row of margins 0 passes it
-pub is_move-yes : (matrix : Sheet) (move : List ℤ) → HasZeroMargins matrix move →
-    is_move matrix move ≡ true
-is_move-yes matrix move h =
-    all_below-all _ matrix.rows
-    (λ i l. (Decides-int_eq (move_margin (sheet_row matrix i) move) (pos 0)).1 (h i l))
+  -- a move passes it
+  pub is_move-yes : IsMoveOf matrix move → is_move matrix move ≡ true
+  is_move-yes h =
+      list_all-from_AllPass is_kept matrix
+      (λ k d l. (Decides-int_eq (move_margin (get_or matrix k d) move) (pos 0)).1 (h k d l))
 
 -- a test that isn't true is false
 not_true : (test : Bool) → (test ≡ true → ⊥) → test ≡ false
@@ -48,41 +32,41 @@ not_true true h = absurd (h refl)
 not_true false h = refl
 
 -- a row with a margin that isn't 0 fails it
-pub is_move-no : (matrix : Sheet) (move : List ℤ) → (HasZeroMargins matrix move → ⊥) →
+pub is_move-no : (matrix : List (List ℤ)) (move : List ℤ) → (IsMoveOf matrix move → ⊥) →
     is_move matrix move ≡ false
-is_move-no matrix move h = not_true (is_move matrix move) (λ e. h (is_move-zero matrix move e))
+is_move-no matrix move h = not_true (is_move matrix move) (λ e. h (is_move-sound matrix move e))
 
 -- where the test finds no row, each row has margins 0
-found_none : (matrix : Sheet) (row : ℕ) (rows : List (List ℤ)) →
-    first_wrong matrix row rows ≡ None → AllByRecursion (HasZeroMargins matrix) rows
+found_none : (matrix : List (List ℤ)) (row : ℕ) (rows : List (List ℤ)) →
+    first_wrong matrix row rows ≡ None → AllByRecursion (IsMoveOf matrix) rows
 found_none matrix row [] e = tt
 found_none matrix row (move ∷ rows) e =
     by (is_move matrix move) refl (λ f. found_none matrix (suc row) rows f) e
   where
     by : (test : Bool) → is_move matrix move ≡ test →
-        (first_wrong matrix (suc row) rows ≡ None → AllByRecursion (HasZeroMargins matrix) rows) →
+        (first_wrong matrix (suc row) rows ≡ None → AllByRecursion (IsMoveOf matrix) rows) →
         cond test (first_wrong matrix (suc row) rows) (Some row) ≡ None →
-        AllByRecursion (HasZeroMargins matrix) (move ∷ rows)
-    by true f rest e = (is_move-zero matrix move f, rest e)
+        AllByRecursion (IsMoveOf matrix) (move ∷ rows)
+    by true f rest e = (is_move-sound matrix move f, rest e)
     by false f rest e = absurd (cc)
 
 -- and so it is in std's words
-pub first_wrong-none : (matrix : Sheet) (row : ℕ) (rows : List (List ℤ)) →
-    first_wrong matrix row rows ≡ None → All (HasZeroMargins matrix) rows
+pub first_wrong-none : (matrix : List (List ℤ)) (row : ℕ) (rows : List (List ℤ)) →
+    first_wrong matrix row rows ≡ None → All (IsMoveOf matrix) rows
 first_wrong-none matrix row rows e = All-from_recursion _ rows (found_none matrix row rows e)
 
 -- where each row has margins 0, the test finds none
-pub first_wrong-all : (matrix : Sheet) (row : ℕ) (rows : List (List ℤ)) →
-    All (HasZeroMargins matrix) rows → first_wrong matrix row rows ≡ None
+pub first_wrong-all : (matrix : List (List ℤ)) (row : ℕ) (rows : List (List ℤ)) →
+    All (IsMoveOf matrix) rows → first_wrong matrix row rows ≡ None
 first_wrong-all matrix row [] h = refl
 first_wrong-all matrix row (move ∷ rows) h =
     rw (is_move-yes matrix move (h 0 [] (omega arith)))
     (first_wrong-all matrix (suc row) rows (λ k d l. h (suc k) d (omega arith)))
 
 -- where the rows before it have margins 0 and it has not, the test finds that row
-pub first_wrong-at : (matrix : Sheet) (row k : ℕ) (rows : List (List ℤ)) → k < length rows →
-    All (HasZeroMargins matrix) (take k rows) →
-    (HasZeroMargins matrix (get_or rows k []) → ⊥) →
+pub first_wrong-at : (matrix : List (List ℤ)) (row k : ℕ) (rows : List (List ℤ)) → k < length rows →
+    All (IsMoveOf matrix) (take k rows) →
+    (IsMoveOf matrix (get_or rows k []) → ⊥) →
     first_wrong matrix row rows ≡ Some (row + k)
 first_wrong-at matrix row k [] l h wrong = absurd (omega arith)
 first_wrong-at matrix row zero (move ∷ rows) l h wrong =

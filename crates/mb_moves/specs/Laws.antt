@@ -1,37 +1,35 @@
--- The laws of the text: which texts are accepted, and that the written form is.
-use Rattle.std.specs.Prelude.{All, List, Ok, Some, length, map, pos, ℕ, ◌↔◌, ◌∷◌, ◌≡◌}
+-- The laws of the text: which texts are accepted, why the others aren't, and that the written
+-- form is.
+use Rattle.std.specs.Prelude.{Err, List, Ok, Some, length, map, pos, ℕ, ◌↔◌, ◌∷◌, ◌≡◌}
 use Rattle.std.specs.List.{flat_map}
-use Rattle.mb_tables.specs.Entries.{AreEntries}
+use Rattle.mb_tables.specs.Limits.{most_cells, most_moves}
 use Rattle.mb_tables.specs.Rows.{AreRows, Rows}
-use Rattle.mb_moves.specs.Numerals.{number_of}
-use Rattle.mb_moves.specs.Sheet.{IsSheet, Sheet, matrix_of, moves_of}
-use Rattle.mb_moves.specs.Text.{tokens}
-use Rattle.mb_moves.specs.Written.{written_matrix, written_moves}
+use Rattle.mb_text.specs.Numerals.{number_of}
+use Rattle.mb_moves.specs.FirstFault.{IsFirstFault}
+use Rattle.mb_moves.specs.GridText.{array_in, matrix_of, moves_of}
+use Rattle.mb_moves.specs.Written.{written}
+use Rattle.mb_moves.specs.declared.fault.GridFault.{GridFault}
 
 -- the numbers of the tokens are the two sizes and the entries row by row, and no token is more
-abbrev pub SaysSheet : List ℕ → Sheet → Type 0
-SaysSheet text sheet =
-    map number_of (tokens text) ≡ map Some (pos sheet.rows ∷ pos sheet.cols ∷ sheet.entries)
+abbrev pub Says : List (List ℕ) → Rows → Type 0
+Says tokens array =
+    map number_of tokens
+    ≡ map Some (pos (length array.rows) ∷ pos array.width ∷ flat_map (λ row. row) array.rows)
 
--- the same of moves, their rows end to end
-abbrev pub SaysMoves : List ℕ → Rows → Type 0
-SaysMoves text moves =
-    map number_of (tokens text)
-    ≡ map Some (pos (length moves.rows) ∷ pos moves.width ∷ flat_map (λ row. row) moves.rows)
+-- tokens are accepted exactly where they are the numbers of an array within the limits
+abbrev pub AcceptedExactly : Type 0
+AcceptedExactly =
+    (lowest highest : ℕ) (tokens : List (List ℕ)) (array : Rows) →
+    (array_in lowest highest tokens ≡ Ok array)
+    ↔ (AreRows lowest highest array × Says tokens array)
 
--- moves of one width, all of their numbers within the limits of entries
-pub record AreMoves (moves : Rows) : Type 0 where
-  pub rows : AreRows moves
-  pub entries : All AreEntries moves.rows
+-- and each refusal is the first fault of the tokens
+abbrev pub RefusedExactly : Type 0
+RefusedExactly =
+    (lowest highest : ℕ) (tokens : List (List ℕ)) (fault : GridFault) →
+    (array_in lowest highest tokens ≡ Err fault) ↔ IsFirstFault lowest highest tokens fault
 
--- a text is accepted exactly where its tokens are the numbers of a matrix, or of moves
-pub record AcceptedExactly : Type 0 where
-  pub matrix : (text : List ℕ) (sheet : Sheet) →
-      (matrix_of text ≡ Ok sheet) ↔ (IsSheet 1 64 sheet × SaysSheet text sheet)
-  pub moves : (text : List ℕ) (moves : Rows) →
-      (moves_of text ≡ Ok moves) ↔ (AreMoves moves × SaysMoves text moves)
-
--- the written form says what was written
+-- the written form is accepted, and says what was written
 pub record WrittenIsRead : Type 0 where
-  pub matrix : (sheet : Sheet) → IsSheet 1 64 sheet → matrix_of (written_matrix sheet) ≡ Ok sheet
-  pub moves : (moves : Rows) → AreMoves moves → moves_of (written_moves moves) ≡ Ok moves
+  pub matrix : (array : Rows) → AreRows 1 most_cells array → matrix_of (written array) ≡ Ok array
+  pub moves : (array : Rows) → AreRows 0 most_moves array → moves_of (written array) ≡ Ok array

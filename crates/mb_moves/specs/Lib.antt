@@ -1,10 +1,8 @@
-pub mod Text
-pub mod Numerals
-pub mod Sheet
-pub mod Capped
-pub mod Support
-pub mod Reads
-pub mod Moves
+pub mod Grid
+pub mod GridText
+pub mod FirstFault
 pub mod Written
-pub mod Laws
 pub mod Testing
+pub mod TableText
+pub mod Laws
+pub mod loops

@@ -1,23 +1,26 @@
 //! The entries of a text, one after the other.
 
-ghost use Rattle.std.specs.Prelude.{◌≡◌, ◌+◌, ◌<◌, ◌≤◌, ◌∷◌, [], All, IfOk, length};
+ghost use Rattle.std.specs.Prelude.{◌≡◌, ◌*◌, ◌+◌, ◌<◌, ◌≤◌, ◌∷◌, [], All, IfOk, length};
+ghost use Rattle.mb_tables.specs.Answers.{Gives};
 ghost use Rattle.mb_tables.specs.Entries.{IsEntry};
-ghost use Rattle.mb_moves.specs.Reads.{Gives, GoesOn};
-ghost use Rattle.mb_moves.specs.Sheet.{entries_after};
-ghost use Rattle.mb_moves.specs.Testing.{entries_checked};
-ghost use Rattle.mb_moves.specs.Text.{tokens};
+ghost use Rattle.mb_tables.specs.Limits.{most_cells, most_moves};
+ghost use Rattle.mb_text.specs.Tokens.{tokens};
+ghost use Rattle.mb_moves.specs.GridText.{cause, entries_after};
+ghost use Rattle.mb_moves.specs.loops.Reads.{GoesOn};
+ghost use Rattle.mb_moves.specs.loops.RowTests.{entries_checked};
 
 use crate::fault::GridFault;
-use crate::{numbers, tokens};
+use crate::numbers;
+use mb_text::next_token;
 
 /// The next entry, and the text after it. So many entries were found before it.
 fn read_entry(text: &[u8], found: u32, wanted: u32) -> Result<(i32, &[u8]), GridFault>
     requires more { found < wanted }
-    requires few { wanted ≤ 64004096 }
+    requires few { wanted ≤ most_moves * most_cells }
     ensures read { GoesOn (λ x. x.0 ∷ []) (λ x. x.1.now) wanted found text.now result }
     ensures sound { IfOk result (λ x. IsEntry x.0) }
 {
-    match tokens::next_token(text) {
+    match next_token(text) {
         None => Err(GridFault::TooFew { found, wanted }),
         Some((token, rest)) => {
             let entry = numbers::entry_of(token, found + 3)?;
@@ -37,7 +40,7 @@ pub fn read_entries(
 ) -> Result<(Vec<i32>, &[u8]), GridFault>
     requires empty { entries.items ≡ [] }
     requires more { found + count ≤ wanted }
-    requires few { wanted ≤ 64004096 }
+    requires few { wanted ≤ most_moves * most_cells }
     ensures read { GoesOn (λ x. x.0.items) (λ x. x.1.now) wanted found text.now result }
     ensures count { IfOk result (λ x. length x.0.items ≡ count) }
     ensures sound { IfOk result (λ x. All IsEntry x.0.items) }
@@ -53,9 +56,9 @@ pub fn read_entries(
 
 /// Whether the text ends here, after all entries.
 pub fn read_end(text: &[u8], wanted: u32) -> Result<(), GridFault>
-    ensures { Gives (λ _. []) result (entries_after wanted wanted (tokens text.now)) }
+    ensures { Gives cause (λ _. []) result (entries_after wanted wanted (tokens text.now)) }
 {
-    match tokens::next_token(text) {
+    match next_token(text) {
         None => Ok(()),
         Some(_) => Err(GridFault::TooMany { wanted }),
     }
@@ -63,8 +66,8 @@ pub fn read_end(text: &[u8], wanted: u32) -> Result<(), GridFault>
 
 /// Whether the text has so many entries and ends. The entries are not kept.
 pub fn check_entries(text: &[u8], wanted: u32) -> Result<(), GridFault>
-    requires few { wanted ≤ 64004096 }
-    ensures { Gives (λ _. tt) result (entries_checked wanted (tokens text.now)) }
+    requires few { wanted ≤ most_moves * most_cells }
+    ensures { Gives cause (λ _. tt) result (entries_checked wanted (tokens text.now)) }
 {
     let mut rest = text;
     for k in 0..wanted {

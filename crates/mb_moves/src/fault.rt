@@ -7,17 +7,17 @@ use std::alloc::{AllocError, AllocFailed};
 /// sizes included.
 #[derive(Clone, Copy, Debug, PartialEq, Eq)]
 pub enum GridFault {
-    /// There are fewer than two tokens, or one of the first two is no size within its limits.
+    /// One of the two sizes lacks, or isn't a number within its limits.
     NoSize,
     /// The token of an entry is no number.
     BadNumber { token: u32 },
-    /// An entry is below -2,147,483,647 or above 2,147,483,647.
+    /// An entry's size is above 2,147,483,647.
     TooWideNumber { token: u32 },
     /// The text ends after so many entries, where so many are wanted.
     TooFew { found: u32, wanted: u32 },
-    /// A further token follows the last entry; so many are wanted.
+    /// The text goes on after the last of the entries; so many are wanted.
     TooMany { wanted: u32 },
-    /// No memory was to be had.
+    /// Out of memory.
     OutOfMemory,
 }
 

@@ -1,17 +1,18 @@
 //! The rows of a move file, tested one after the other and not kept.
 
-ghost use Rattle.std.specs.Prelude.{◌≡◌, ◌≤◌, ◌∷◌, [], All, length};
-ghost use Rattle.std.specs.Bool.{OnTrue};
+ghost use Rattle.std.specs.Prelude.{◌≡◌, ◌≤◌, ◌∷◌, [], length};
 ghost use Rattle.std.specs.Option.{option_or};
-ghost use Rattle.mb_moves.specs.Moves.{IsGrid, sheet};
-ghost use Rattle.mb_moves.specs.Reads.{Gives};
-ghost use Rattle.mb_moves.specs.Support.{IsSmall};
-ghost use Rattle.mb_moves.specs.Testing.{first_wrong, tested_text, wrong_row};
-ghost use Rattle.mb_moves.specs.Text.{tokens};
+ghost use Rattle.mb_tables.specs.Answers.{Gives};
+ghost use Rattle.mb_tables.specs.Limits.{most_cells, most_moves};
+ghost use Rattle.mb_text.specs.Tokens.{tokens};
+ghost use Rattle.mb_moves.specs.GridText.{cause};
+ghost use Rattle.mb_moves.specs.Testing.{first_wrong, tested_text};
+ghost use Rattle.mb_moves.specs.loops.RowTests.{wrong_row};
 
 use crate::fault::GridFault;
 use crate::grid::Grid;
 use crate::{entries, kernel, reading};
+use mb_tables::MOST_MOVES;
 use std::alloc::Global;
 
 /// How the rows of a move file stand to a matrix.
@@ -27,21 +28,13 @@ pub enum Tested {
 
 /// The first row that is no move, with one row more: the one that was found before, or else this
 /// one where it is none.
-fn first_wrong_with(
-    found: Option<u32>,
-    number: u32,
-    grid: &Grid,
-    small: bool,
-    row: &[i32],
-) -> Option<u32>
-    requires grid { IsGrid grid.now }
-    requires small { OnTrue small (All IsSmall grid.now.entries.items) }
-    requires width { length row.now ≡ grid.now.cols }
-    ensures { result ≡ option_or found (first_wrong (sheet grid.now) number (row.now ∷ [])) }
+fn first_wrong_with(found: Option<u32>, number: u32, grid: &Grid, row: &[i32]) -> Option<u32>
+    requires width { length row.now ≡ grid.now.width }
+    ensures { result ≡ option_or found (first_wrong grid.now.rows number (row.now ∷ [])) }
 {
     match found {
         Some(_) => found,
-        None if kernel::is_move_of(grid, small, row) => None,
+        None if kernel::is_move_of(grid, row) => None,
         None => Some(number),
     }
 }
@@ -52,21 +45,23 @@ fn first_wrong_row(
     alloc: Global,
     grid: &Grid,
     rows: u32,
+    cols: u32,
     text: &[u8],
 ) -> Result<Option<u32>, GridFault>
-    requires grid { IsGrid grid.now }
-    requires few_rows { rows ≤ 1000064 }
-    ensures { Gives (λ row. row) result (wrong_row (sheet grid.now) rows (tokens text.now)) }
+    requires few_rows { rows ≤ most_moves }
+    requires few_cols { cols ≤ most_cells }
+    requires width { cols ≡ grid.now.width }
+    ensures { Gives cause (λ row. row) result
+        (wrong_row grid.now.rows cols rows (tokens text.now)) }
 {
-    let wanted = rows * grid.cols;
-    let small = kernel::are_small(grid.entries.as_slice());
-    let mut buffer = Vec::with_capacity(alloc, grid.cols as usize)?;
+    let wanted = rows * cols;
+    let mut buffer = Vec::with_capacity(alloc, cols as usize)?;
     let mut rest = text;
     let mut wrong = None;
     for k in 0..rows {
         buffer.clear();
-        let (row, after) = entries::read_entries(buffer, rest, k * grid.cols, grid.cols, wanted)?;
-        wrong = first_wrong_with(wrong, k + 1, grid, small, row.as_slice());
+        let (row, after) = entries::read_entries(buffer, rest, k * cols, cols, wanted)?;
+        wrong = first_wrong_with(wrong, k + 1, grid, row.as_slice());
         buffer = row;
         rest = after;
     }
@@ -80,15 +75,14 @@ fn first_wrong_row(
 /// The whole text is read, from left to right, in any case: a refusal is its first fault, and
 /// comes before every answer on widths and rows. No row is kept, so the memory is that of one row.
 pub fn test_moves(alloc: Global, grid: &Grid, text: &[u8]) -> Result<Tested, GridFault>
-    requires grid { IsGrid grid.now }
-    ensures exact { Gives (λ tested. tested) result (tested_text (sheet grid.now) text.now) }
+    ensures { Gives cause (λ tested. tested) result (tested_text grid.now text.now) }
 {
-    let (sizes, rest) = reading::read_sizes(text, 0, 1_000_064)?;
-    if sizes.cols != grid.cols {
+    let (sizes, rest) = reading::read_sizes(text, 0, MOST_MOVES)?;
+    if sizes.cols != grid.width() {
         entries::check_entries(rest, sizes.rows * sizes.cols)?;
         return Ok(Tested::WidthDiffers { moves: sizes.cols });
     }
-    match first_wrong_row(alloc, grid, sizes.rows, rest)? {
+    match first_wrong_row(alloc, grid, sizes.rows, sizes.cols, rest)? {
         None => Ok(Tested::Moves { count: sizes.rows }),
         Some(row) => Ok(Tested::NotAMove { row }),
     }

@@ -1,8 +1,12 @@
 pub mod Causes
+pub mod Told
 pub mod Files
+pub mod Rows
 pub mod Sink
 pub mod Calls
 pub mod FilesInMemory
 pub mod SinkInMemory
+pub mod KeeperInMemory
 pub mod Entries
-pub mod Transfer
+pub mod RowsInTree
+pub mod loops

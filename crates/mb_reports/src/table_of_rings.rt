@@ -3,20 +3,17 @@
 ghost use Rattle.std.specs.Prelude.{◌≡◌, ◌++◌, ◌^◌, ◌<◌, IfOk, OnOk, map};
 ghost use Rattle.mb_reports.specs.RingTable.{ring_lines, ring_table_of, tables_in};
 
-use crate::numbers::{append_number, append_spaced, append_table};
 use mb_tables::{OutOfMemory, Table};
+use mb_text::{push_line, push_word_line};
 use std::alloc::Global;
 
 /// Puts the lines of ring k at the end of a text.
 fn append_ring(out: &mut Vec<u8>, k: u64, ring: &[Table]) -> Result<(), OutOfMemory>
     ensures { OnOk result (out.new.items ≡ out.old.items ++ ring_lines k ring.now) }
 {
-    out.extend_from_slice(b"ring ")?;
-    append_number(out, k)?;
-    append_spaced(out, ring.len() as u64)?;
-    out.push(b'\n')?;
+    push_word_line(out, b"ring", &[k, ring.len() as u64])?;
     for table in ring {
-        append_table(out, table.as_slice())?;
+        push_line(out, table.as_slice())?;
     }
     Ok(())
 }
@@ -42,9 +39,8 @@ pub fn ring_table(alloc: Global, rings: &[Vec<Table>]) -> Result<Vec<u8>, OutOfM
     ensures { IfOk result (λ text.
         text.items ≡ ring_table_of (map (λ ring. ring.items) rings.now)) }
 {
-    let mut out = Vec::from_slice(alloc, b"tables ")?;
-    append_number(&mut out, count_tables(rings))?;
-    out.push(b'\n')?;
+    let mut out = Vec::new(alloc);
+    push_word_line(&mut out, b"tables", &[count_tables(rings)])?;
     for (k, ring) in rings.iter().enumerate() {
         append_ring(&mut out, k as u64, ring.as_slice())?;
     }

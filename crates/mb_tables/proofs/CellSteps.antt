@@ -1,13 +1,17 @@
 -- A step of a table is the same step at each cell, and what a cell refuses the table refuses.
-use Rattle.std.proofs.Common.{List, [], ap, arith, drop, get_or, length, pos, refl, suc, sym, ℕ, ℤ, ◌+ℤ◌, ◌<◌, ◌∙◌, ◌∷◌, ◌≡◌}
+use Rattle.std.proofs.Common.{All, List, [], ap, arith, drop, get_or, length, pos, refl, subst, suc, sym, ℕ, ℤ, ◌+ℤ◌, ◌<◌, ◌∙◌, ◌∷◌, ◌≡◌}
 use Rattle.std.proofs.lemmas.Int.{ints}
 use Rattle.std.proofs.Math.Seq.{take-append_seam}
 use Rattle.std.specs.List.{refill}
-use Rattle.mb_tables.specs.Cell.{CanMoveAt, IsMovedCount}
-use Rattle.mb_tables.specs.Counts.{AreCounts}
+use Rattle.mb_tables.proofs.PartLaws.{entries_of-part}
+use Rattle.mb_tables.specs.Counts.{AreCounts, IsTable}
 use Rattle.mb_tables.specs.Step.{Adds, Moved}
+use Rattle.mb_tables.specs.declared.part.Part.{Part}
 use Rattle.mb_tables.specs.declared.sign.Sign.{Sign}
 use Rattle.mb_tables.specs.declared.sign.Sign.TheVariants.{Minus, Plus}
+use Rattle.mb_tables.specs.loops.Cell.{CanMoveCount, CanMoveParts, CantMovePart, IsMovedCount}
+use Rattle.mb_tables.specs.loops.Parts.{AreApart, entries_of}
+use Rattle.mb_tables.specs.loops.Turn.{turned}
 
 -- a table whose counts are those of the first moved cell by cell is the first and the move
 pub adds_by_cells : (u : List ℕ) (move : List ℤ) (v : List ℕ) →
@@ -59,9 +63,22 @@ moved_by_cells Minus u move v e f h =
     adds_by_cells v move u (f ∙ e) (sym f)
     (λ k l. let at = h k (omega arith) in omega (arith, ints))
 
+-- the step back leads back
+pub moved-back : (sign : Sign) (u : List ℕ) (move : List ℤ) (v : List ℕ) → Moved sign u move v →
+    Moved (turned sign) v move u
+moved-back Plus u move v h = h
+moved-back Minus u move v h = h
+
+-- and a step led forth where one leads back
+pub moved-forth : (sign : Sign) (u : List ℕ) (move : List ℤ) (v : List ℕ) →
+    Moved (turned sign) v move u → Moved sign u move v
+moved-forth Plus u move v h = h
+moved-forth Minus u move v h = h
+
 -- where the moved table has counts of 32 bits, each cell can be moved
-pub can_move_each : (sign : Sign) (u : List ℕ) (move : List ℤ) (v : List ℕ) →
-    Moved sign u move v → AreCounts v → (k : ℕ) → k < length u → CanMoveAt sign u move k
+can_move_each : (sign : Sign) (u : List ℕ) (move : List ℤ) (v : List ℕ) →
+    Moved sign u move v → AreCounts v → (k : ℕ) → k < length u →
+    CanMoveCount sign (get_or u k 0) (get_or move k (pos 0))
 can_move_each Plus u move v h fits k l =
     let e = adds-length u move v h in
     let at = adds-at u move v h k l in
@@ -73,35 +90,81 @@ can_move_each Minus u move v h fits k l =
     let small = fits k 0 (omega arith) in
     (omega (arith, ints), omega (arith, ints))
 
--- a cell that can't be moved refuses every moved table of 32-bit counts
-pub none_moved : (sign : Sign) (u counts : List ℕ) (move entries : List ℤ) →
-    counts ≡ u → entries ≡ move →
-    (k : ℕ) × (k < length counts) × (CanMoveAt sign counts entries k → ⊥) →
+-- a part that can't be moved refuses every moved table of 32-bit counts
+pub none_moved : (sign : Sign) (u counts : List ℕ) (move : List ℤ) (parts : List Part) →
+    counts ≡ u → length u ≡ length move → move ≡ entries_of (length move) parts →
+    AreApart parts → All (λ part. part.cell < length move) parts →
+    CantMovePart sign counts parts →
     (v : List ℕ) → Moved sign u move v → AreCounts v → ⊥
-none_moved sign u counts move entries e f some v h fits =
-    let l : some.0 < length u = let g = ap length e in let m = some.1 in omega arith in
-    some.2 (rw (e, f) (can_move_each sign u move v h fits some.0 l))
+none_moved sign u counts move parts e wide made apart within some v h fits =
+    let none : Part = record { cell = 0; entry = pos 0 } in
+    let part = get_or parts some.0 none in
+    let cell : part.cell < length move = within some.0 none some.1 in
+    let can = can_move_each sign u move v h fits part.cell (omega arith) in
+    let entry : get_or move part.cell (pos 0) ≡ part.entry =
+    ap (λ list. get_or list part.cell (pos 0)) made
+    ∙ entries_of-part (length move) parts apart within some.0 none some.1 in
+    some.2 none
+    (subst (λ list. CanMoveCount sign (get_or list part.cell 0) part.entry) (sym e)
+    (subst (CanMoveCount sign (get_or u part.cell 0)) entry can))
+
+-- after a step of a table each part can be moved back
+pub can_move_back : (sign : Sign) (u v counts : List ℕ) (move : List ℤ) (parts : List Part) →
+    Moved sign u move v → AreCounts u → counts ≡ v → length v ≡ length move →
+    move ≡ entries_of (length move) parts → AreApart parts →
+    All (λ part. part.cell < length move) parts →
+    CanMoveParts (turned sign) counts parts 0 (length parts)
+can_move_back sign u v counts move parts h fits e wide made apart within q d l m =
+    let part = get_or parts q d in
+    let cell : part.cell < length move = within q d m in
+    let can =
+    can_move_each (turned sign) v move u (moved-back sign u move v h) fits part.cell
+    (omega arith) in
+    let entry : get_or move part.cell (pos 0) ≡ part.entry =
+    ap (λ list. get_or list part.cell (pos 0)) made
+    ∙ entries_of-part (length move) parts apart within q d m in
+    subst (λ list. CanMoveCount (turned sign) (get_or list part.cell 0) part.entry) (sym e)
+    (subst (CanMoveCount (turned sign) (get_or v part.cell 0)) entry can)
 
 -- the same cells, read again
-pub each_again : (sign : Sign) (a b : List ℕ) (entries : List ℤ) → b ≡ a →
-    ((k : ℕ) → k < length a → CanMoveAt sign a entries k) →
-    (k : ℕ) → k < length b → CanMoveAt sign b entries k
-each_again sign a b entries e h = rw e h
+pub each_again : (sign : Sign) (a b : List ℕ) (parts : List Part) → b ≡ a →
+    CanMoveParts sign a parts 0 (length parts) → CanMoveParts sign b parts 0 (length parts)
+each_again sign a b parts e h = rw e h
 
 -- counts written over others of the same number are these counts
 pub refill_same : (items after : List ℕ) → length after ≡ length items →
     refill (length items) items after ≡ after
 refill_same items after e = rw (← e) (take-append_seam after (drop (length after) items))
 
+-- the written counts are a table
+pub table_written : (items counts after : List ℕ) → IsTable items → counts ≡ items →
+    length after ≡ length counts → AreCounts after →
+    IsTable (refill (length items) items after)
+table_written items counts after sound e long fits =
+    rw (refill_same items after (let a = ap length e in omega arith))
+    (record {
+      few = let a = ap length e in let b = sound.few in omega arith;
+      fits = fits;
+    })
+
 -- the written counts are the moved table
-pub moved_written : (sign : Sign) (u items counts after : List ℕ) (move entries : List ℤ) →
-    items ≡ u → counts ≡ items → entries ≡ move → length u ≡ length move →
+pub moved_written : (sign : Sign) (u items counts after : List ℕ) (move : List ℤ)
+    (parts : List Part) →
+    items ≡ u → counts ≡ items → length u ≡ length move → move ≡ entries_of (length move) parts →
     length after ≡ length counts →
     ((k : ℕ) → k < length counts →
-    IsMovedCount sign (get_or counts k 0) (get_or entries k (pos 0)) (get_or after k 0)) →
+    IsMovedCount sign (get_or counts k 0)
+    (get_or (entries_of (length counts) parts) k (pos 0)) (get_or after k 0)) →
     Moved sign u move (refill (length items) items after)
-moved_written sign u items counts after move entries e f g wide long h =
+moved_written sign u items counts after move parts e f wide made long h =
+    let same : counts ≡ u = f ∙ e in
+    let cells : length counts ≡ length move = ap length same ∙ wide in
     rw (refill_same items after (let a = ap length f in omega arith))
     (moved_by_cells sign u move after wide
-    (let a = ap length f in let b = ap length e in omega arith)
-    (rw (← e, ← g, ← f) h))
+    (let a = ap length same in omega arith)
+    (λ k l.
+    subst (λ list. IsMovedCount sign (get_or list k 0) (get_or move k (pos 0)) (get_or after k 0))
+    same
+    (subst (λ list. IsMovedCount sign (get_or counts k 0) (get_or list k (pos 0)) (get_or after k 0))
+    (ap (λ n. entries_of n parts) cells ∙ sym made)
+    (h k (let a = ap length same in omega arith)))))

@@ -1,6 +1,13 @@
 pub mod CellSteps
-pub mod EntryBounds
+pub mod HandedOn
 pub mod JoinedTables
+pub mod KeptParts
 pub mod ListLaws
+pub mod OneStep
+pub mod PartLaws
+pub mod PartSteps
+pub mod PickedParts
+pub mod RowsOfEntries
+pub mod StepTests
 pub mod UnitLaws
 pub mod VectorLaws

@@ -1,5 +1,6 @@
 -- Laws of lists of any elements: what stands in a list, and what stands at a place of one.
-use Rattle.std.proofs.Common.{Bool, List, None, Some, [], ap, arith, cond, false, inl, inr, length, map, refl, slice_get, subst, suc, sym, true, zero, ℕ, ◌++◌, ◌+◌, ◌<◌, ◌∙◌, ◌∷◌, ◌≡◌, ◌≤◌, ◌⊎◌}
+-- What nothing here cites is for the crates of monomials and rewriting, which stand above.
+use Rattle.std.proofs.Common.{Bool, List, None, Some, [], ap, arith, cond, false, get_or, inl, inr, length, map, refl, slice_get, subst, suc, sym, true, zero, ℕ, ◌++◌, ◌+◌, ◌<◌, ◌∙◌, ◌∷◌, ◌≡◌, ◌≤◌, ◌⊎◌}
 use Rattle.std.specs.List.{filter, range_with_len}
 use Rattle.mb_tables.specs.Lists.{In}
 
@@ -23,15 +24,6 @@ unfolding In
 In-map f x [] i = absurd i
 In-map f x (y ∷ xs) (inl e) = inl (ap f e)
 In-map f x (y ∷ xs) (inr i) = inr (In-map f x xs i)
-
--- what stands among the values is the value of the element at some place
-pub In-map_place : {X Y : Type 0} (f : X → Y) (y : Y) (xs : List X) → In y (map f xs) →
-    (k : ℕ) × (x : X) × (slice_get xs k ≡ Some x) × (y ≡ f x)
-unfolding In
-In-map_place f y [] i = absurd i
-In-map_place f y (x ∷ xs) (inl e) = (0, x, refl, e)
-In-map_place f y (x ∷ xs) (inr i) =
-    let r = In-map_place f y xs i in (suc r.0, r.1, r.2, r.3)
 
 -- a number of a range stands in it
 pub In-range : (a n k : ℕ) → a ≤ k → k < a + n → In k (range_with_len a n)
@@ -115,6 +107,14 @@ place-in [] k p e = cc
 place-in (x ∷ xs) zero p e = inl (cc)
 place-in (x ∷ xs) (suc k) p e = inr (place-in xs k p e)
 
+-- and what stands in the list is the element at some place
+pub In-place : {X : Type 0} (xs : List X) (p : X) → In p xs →
+    (k : ℕ) × (slice_get xs k ≡ Some p)
+unfolding In
+In-place [] p h = absurd h
+In-place (x ∷ xs) p (inl e) = (0, ap Some (sym e))
+In-place (x ∷ xs) p (inr h) = let r = In-place xs p h in (suc r.0, r.1)
+
 -- an element stays at its place when a list goes on
 pub get-more : {X : Type 0} (xs more : List X) (k : ℕ) (x : X) →
     slice_get xs k ≡ Some x → slice_get (xs ++ more) k ≡ Some x
@@ -174,3 +174,14 @@ In-map_range f y [] h = absurd h
 In-map_range f y (x ∷ xs) (inl e) = (x, inl refl, e)
 In-map_range f y (x ∷ xs) (inr h) =
     let r = In-map_range f y xs h in (r.0, inr r.1, r.2)
+
+-- lists are equal where they are as long and equal at each place
+pub same_at : {X : Type 0} (d : X) (xs ys : List X) → length xs ≡ length ys →
+    ((k : ℕ) → k < length xs → get_or xs k d ≡ get_or ys k d) → xs ≡ ys
+same_at d [] [] e h = refl
+same_at d [] (y ∷ ys) e h = absurd (omega arith)
+same_at d (x ∷ xs) [] e h = absurd (omega arith)
+same_at d (x ∷ xs) (y ∷ ys) e h =
+    let first = h 0 (omega arith) in
+    let rest = same_at d xs ys (omega arith) (λ k l. h (suc k) (omega arith)) in
+    cc

@@ -1,4 +1,5 @@
 -- Laws of the unit vectors: 1 at one place, and else 0.
+-- What nothing here cites is for the crates of monomials and rewriting, which stand above.
 use Rattle.std.proofs.Common.{List, [], ap, arith, false, length, refl, suc, sum, sym, zero, ℕ, ◌*◌, ◌++◌, ◌+◌, ◌<◌, ◌∙◌, ◌∷◌, ◌≡◌, ◌≤◌}
 use Rattle.std.proofs.lemmas.List.Sums.{sum_by-cons}
 use Rattle.mb_tables.proofs.VectorLaws.{at-minus, at-plus, at-zeros, length-minus, length-plus, length-zeros, plus-zeros, same, sum-zeros, times-zeros}

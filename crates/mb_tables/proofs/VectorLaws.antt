@@ -1,9 +1,11 @@
 -- Laws of vectors: the number at each place, the length and the sum of what `plus`, `minus`,
 -- `greater`, `times`, `zeros` and the tests of specs/Vectors make.
+-- What nothing here cites is for the crates of monomials and rewriting, which stand above.
 use Rattle.std.proofs.Common.{Bool, List, [], ap, arith, drop, false, inl, inr, length, max, refl, suc, sum, take, true, zero, ℕ, ◌*◌, ◌++◌, ◌+◌, ◌-◌, ◌<◌, ◌∷◌, ◌≡◌, ◌≤◌, ◌⊎◌}
 use Rattle.std.proofs.lemmas.Bool.{cases_lt}
 use Rattle.std.proofs.lemmas.List.{get_or_past}
 use Rattle.std.proofs.lemmas.List.Sums.{sum_by-cons}
+use Rattle.mb_tables.proofs.ListLaws.{same_at}
 use Rattle.mb_tables.specs.Vectors.{all_zero, at, greater, minus, plus, shares, times, within, zeros}
 
 -- the empty vector may be added
@@ -217,22 +219,12 @@ length-greater (x ∷ u) (y ∷ v) = let e = length-greater u v in omega arith
 
 -- vectors of one length are equal where they are equal at each place
 pub same : (u v : List ℕ) → length u ≡ length v → ((k : ℕ) → at u k ≡ at v k) → u ≡ v
-same [] [] e h = refl
-same [] (y ∷ v) e h = absurd (omega arith)
-same (x ∷ u) [] e h = absurd (omega arith)
-same (x ∷ u) (y ∷ v) e h =
-    let first = h 0 in let rest = same u v (omega arith) (λ k. h (suc k)) in cc
+same u v e h = same_at 0 u v e (λ k l. h k)
 
 -- vectors of one length are equal where they are equal at each of their places
 pub same_places : (u v : List ℕ) → length u ≡ length v →
     ((k : ℕ) → k < length u → at u k ≡ at v k) → u ≡ v
-same_places [] [] e h = refl
-same_places [] (y ∷ v) e h = absurd (omega arith)
-same_places (x ∷ u) [] e h = absurd (omega arith)
-same_places (x ∷ u) (y ∷ v) e h =
-    let first = h 0 (omega arith) in
-    let rest = same_places u v (omega arith) (λ k l. h (suc k) (omega arith)) in
-    cc
+same_places u v e h = same_at 0 u v e h
 
 -- a sum is the same with its parts swapped
 pub plus-comm : (u v : List ℕ) → plus u v ≡ plus v u

@@ -1,21 +1,39 @@
--- Why a list of numbers is no move, and why one is no table.
-use Rattle.std.specs.Prelude.{All, List, Some, length, slice_get, take, ℕ, ℤ, ◌<◌, ◌≡◌, ◌≢◌, ◌≤◌}
+-- The move and the table that a list of numbers is, or why it is none.
+use Rattle.std.specs.Ordering.{int_eq}
+use Rattle.std.specs.Prelude.{Bool, Err, List, None, Ok, Option, Result, Some, if◌then◌else◌, length, nat_lt, position, ℕ, ℤ}
 use Rattle.mb_tables.specs.Entries.{lowest}
-use Rattle.mb_tables.specs.declared.entries.MoveFault.{MoveFault}
-use Rattle.mb_tables.specs.declared.entries.MoveFault.TheVariants as move_faults
+use Rattle.mb_tables.specs.Limits.{most_cells}
+use Rattle.mb_tables.specs.declared.one_move.MoveFault.{MoveFault}
+use Rattle.mb_tables.specs.declared.one_move.MoveFault.TheVariants as move_faults
 use Rattle.mb_tables.specs.declared.table.TableFault.{TableFault}
 use Rattle.mb_tables.specs.declared.table.TableFault.TheVariants as table_faults
 
--- the cause of each refusal of a move: too many entries, else the first entry that is -(2 ^ 31);
--- want of memory is free
-abbrev pub IsMoveFault : List ℤ → MoveFault → Type 0
-IsMoveFault entries move_faults.TooManyCells = 64 < length entries
-IsMoveFault entries (move_faults.EntryTooLarge cell) =
-    (length entries ≤ 64) × (slice_get entries cell ≡ Some lowest)
-    × All (λ z. z ≢ lowest) (take cell entries)
-IsMoveFault entries move_faults.OutOfMemory = Unit {0}
+-- whether a number is the one that is no entry
+abbrev pub is_lowest : ℤ → Bool
+is_lowest z = int_eq z lowest
 
--- the cause of each refusal of a table
-abbrev pub IsTableFault : List ℕ → TableFault → Type 0
-IsTableFault counts table_faults.TooManyCells = 64 < length counts
-IsTableFault counts table_faults.OutOfMemory = Unit {0}
+-- the move of these entries, unless the first one that is no entry is in this cell
+abbrev pub without_lowest : List ℤ → Option ℕ → Result (List ℤ) MoveFault
+without_lowest entries None = Ok entries
+without_lowest entries (Some cell) = Err (move_faults.EntryTooLarge cell)
+
+-- the move of these entries: at most 64, none of them -(2 ^ 31)
+abbrev pub move_of : List ℤ → Result (List ℤ) MoveFault
+move_of entries =
+    if nat_lt most_cells (length entries) then Err move_faults.TooManyCells
+    else without_lowest entries (position is_lowest entries)
+
+-- the cause of a refusal of a move; want of memory has none
+abbrev pub move_cause : MoveFault → Option MoveFault
+move_cause move_faults.OutOfMemory = None
+move_cause fault = Some fault
+
+-- the table of these counts: at most 64
+abbrev pub table_of : List ℕ → Result (List ℕ) TableFault
+table_of counts =
+    if nat_lt most_cells (length counts) then Err table_faults.TooManyCells else Ok counts
+
+-- the cause of a refusal of a table; want of memory has none
+abbrev pub table_cause : TableFault → Option TableFault
+table_cause table_faults.OutOfMemory = None
+table_cause fault = Some fault

@@ -1,7 +1,18 @@
--- The laws of joined tables.
-use Rattle.std.specs.Prelude.{List, length, ℕ, ℤ, ◌≤◌}
+-- The laws of steps and of joined tables.
+use Rattle.std.specs.Prelude.{List, length, true, ℕ, ℤ, ◌↔◌, ◌≡◌, ◌≤◌}
 use Rattle.mb_tables.specs.Chain.{Joined}
+use Rattle.mb_tables.specs.Lists.{In, stands_in}
+use Rattle.mb_tables.specs.Step.{Adds, IsNear, OneApart, adds, is_near, is_step}
 use Rattle.mb_tables.specs.Vectors.{plus}
+
+-- each test passes exactly where its relation holds
+pub record StepsAreDecided : Type 0 where
+  pub made : (u : List ℕ) (move : List ℤ) (v : List ℕ) → (adds u move v ≡ true) ↔ Adds u move v
+  pub step : (moves : List (List ℤ)) (u v : List ℕ) →
+      (is_step moves u v ≡ true) ↔ OneApart moves u v
+  pub near : (moves : List (List ℤ)) (list : List (List ℕ)) (v : List ℕ) →
+      (is_near moves list v ≡ true) ↔ IsNear moves list v
+  pub listed : (list : List (List ℕ)) (v : List ℕ) → (stands_in list v ≡ true) ↔ In v list
 
 -- what joins is joined back, and chains go on from each other
 pub record JoiningIsAnEquivalence : Type 0 where

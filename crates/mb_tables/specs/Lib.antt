@@ -1,11 +1,13 @@
-pub mod Cell
+pub mod Answers
 pub mod Chain
 pub mod Counts
 pub mod Entries
 pub mod Faults
 pub mod Laws
+pub mod Limits
 pub mod Lists
 pub mod Margin
 pub mod Rows
 pub mod Step
 pub mod Vectors
+pub mod loops

@@ -2,17 +2,18 @@
 //! steps that one makes in the other.
 #![tactic(auto)]
 
-mod entries;
 mod laws;
 mod memory;
 mod moves;
+mod one_move;
+mod part;
 mod sign;
 mod steps;
 mod table;
 
-pub use entries::{Move, MoveFault};
-pub use laws::{joined_added, joining};
+pub use laws::{joined_added, joining_is_an_equivalence, steps_are_decided};
 pub use memory::OutOfMemory;
 pub use moves::{MOST_MOVES, Moves};
+pub use one_move::{MOST_CELLS, Move, MoveFault};
 pub use sign::Sign;
-pub use table::{Table, TableFault};
+pub use table::{LARGEST_TOTAL, Table, TableFault};

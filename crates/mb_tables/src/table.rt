@@ -1,19 +1,23 @@
 //! A table of counts.
 
-ghost use Rattle.std.specs.Prelude.{◌≡◌, ◌<◌, IfErr, IfOk, List, Some, length, slice_get, ℕ};
+ghost use Rattle.std.specs.Prelude.{◌≡◌, ◌<◌, IfOk, List, Some, length, slice_get, ℕ};
 ghost use Rattle.std.specs.Bool.{OnFalse, OnTrue};
-ghost use Rattle.mb_tables.specs.Counts.{AreCounts, HasFewCells};
+ghost use Rattle.mb_tables.specs.Answers.{Gives};
+ghost use Rattle.mb_tables.specs.Counts.{AreCounts, HasFewCells, IsTable};
 ghost use Rattle.mb_tables.specs.Step.{Moved};
 
-use crate::entries::Move;
 use crate::memory::OutOfMemory;
+use crate::one_move::{MOST_CELLS, Move};
 use crate::sign::Sign;
 use crate::steps;
 use smallvec::SmallVec;
-use std::alloc::{AllocError, Global};
+use std::alloc::Global;
 use std::cmp::Ordering;
 use std::hash::{Hash, Hasher};
 use std::marker::Model;
+
+/// The most that the counts of a table from a file add up to.
+pub const LARGEST_TOTAL: u32 = 1_000_000;
 
 /// A contingency table, seen as its list of counts, one a cell: at most 64 of 32 bits.
 ///
@@ -25,13 +29,13 @@ pub struct Table {
 
 impl Model for Table {
     ghost use Rattle.std.specs.Prelude.{List, ℕ};
-    ghost use Rattle.mb_tables.specs.Counts.{HasFewCells};
+    ghost use Rattle.mb_tables.specs.Counts.{IsTable};
 
     ghost Value = { List ℕ };
 
     ghost view = { λ t. t.counts.items };
 
-    ghost invariant = { λ t. HasFewCells t.counts.items };
+    ghost invariant = { λ t. IsTable t.counts.items };
 }
 
 /// Why a list of counts is no table.
@@ -39,33 +43,41 @@ impl Model for Table {
 pub enum TableFault {
     /// There are more than 64 counts.
     TooManyCells,
-    /// No memory was to be had.
+    /// Out of memory.
     OutOfMemory,
 }
 
-impl From<AllocError> for TableFault {
+impl From<OutOfMemory> for TableFault {
     ghost use Rattle.std.specs.Prelude.{◌≡◌};
     ghost use Rattle.mb_tables.specs.declared.table.TableFault.TheVariants.{OutOfMemory};
 
     ghost from_gives = { λ _ e. e ≡ OutOfMemory };
 
-    fn from(_e: AllocError) -> TableFault {
+    fn from(_e: OutOfMemory) -> TableFault {
         TableFault::OutOfMemory
     }
 }
 
 impl Table {
-    ghost use Rattle.mb_tables.specs.Faults.{IsTableFault};
+    ghost use Rattle.mb_tables.specs.Faults.{table_cause, table_of};
 
     /// The table of these counts, one a cell. Refused are more than 64 counts.
     pub fn try_new(alloc: Global, counts: &[u32]) -> Result<Table, TableFault>
         ensures made { IfOk result (λ t. t ≡ counts.now) }
         ensures few { IfOk result (λ t. HasFewCells counts.now) }
-        ensures refused { IfErr result (IsTableFault counts.now) }
+        ensures exact { Gives table_cause (λ t. t) result (table_of counts.now) }
     {
-        if counts.len() > 64 {
+        if counts.len() > MOST_CELLS as usize {
             return Err(TableFault::TooManyCells);
         }
+        Ok(Table::from_counts(alloc, counts)?)
+    }
+
+    /// The table of these counts, which are known to be few.
+    pub fn from_counts(alloc: Global, counts: &[u32]) -> Result<Table, OutOfMemory>
+        requires { HasFewCells counts.now }
+        ensures { IfOk result (λ t. t ≡ counts.now) }
+    {
         Ok(Table {
             counts: SmallVec::from_slice(alloc, counts)?,
         })
@@ -74,7 +86,7 @@ impl Table {
     /// The number of cells, at most 64.
     pub fn len(&self) -> u32
         ensures cells { result ≡ length self.now }
-        ensures few { HasFewCells self.now }
+        ensures sound { IsTable self.now }
     {
         self.counts.len() as u32
     }
@@ -90,7 +102,7 @@ impl Table {
     /// All counts, cell by cell.
     pub fn as_slice(&self) -> &[u32]
         ensures counts { result.now ≡ self.now }
-        ensures few { HasFewCells self.now }
+        ensures sound { IsTable self.now }
     {
         self.counts.as_slice()
     }
@@ -104,21 +116,33 @@ impl Table {
         })
     }
 
-    /// Adds a move, or subtracts it. The answer is false exactly where a count would pass below
-    /// 0 or above 4,294,967,295; the table is then as it was. It takes no memory.
+    /// Adds a move, or subtracts it. Where that would take a count out of the range of a `u32`, and
+    /// only there, the table stays as it was and the answer is false. It takes no memory.
     pub fn apply(&mut self, z: &Move, sign: Sign) -> bool
         requires { length self.old ≡ length z.now }
         ensures moved { OnTrue result (Moved sign self.old z.now self.new) }
         ensures refused { OnFalse result
             ((v : List ℕ) → Moved sign self.old z.now v → AreCounts v → ⊥) }
         ensures kept { OnFalse result (self.new ≡ self.old) }
+        ensures sound { IsTable self.old }
     {
-        let entries = z.as_slice();
-        if !steps::can_move(self.counts.as_slice(), entries, sign) {
+        let (parts, lows) = z.parts();
+        if !steps::can_move(self.counts.as_slice(), parts, lows, sign) {
             return false;
         }
-        steps::move_counts(self.counts.as_mut_slice(), entries, sign);
+        steps::move_counts(self.counts.as_mut_slice(), parts, sign);
         true
+    }
+
+    /// Takes a step back: it undoes what the move, added or subtracted, made of another table. It
+    /// takes no memory.
+    pub fn take_back(&mut self, z: &Move, sign: Sign)
+        requires cells { length self.old ≡ length z.now }
+        requires made { (u : List ℕ) × IsTable u × Moved sign u z.now self.old }
+        ensures { Moved sign self.new z.now self.old }
+    {
+        let (parts, _lows) = z.parts();
+        steps::move_counts(self.counts.as_mut_slice(), parts, sign.opposite());
     }
 }
 

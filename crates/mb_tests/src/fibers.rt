@@ -1,7 +1,7 @@
 //! The walk beside the plain list of a fiber.
 
 use crate::run::reach;
-use mb_matrix::{Matrix, plain_fibre};
+use mb_matrix::{Matrix, plain_fiber};
 use mb_outside::NoGate;
 use mb_tables::Table;
 use std::alloc::{AllocError, Global};
@@ -17,7 +17,7 @@ fn listed(alloc: Global, matrix: &Matrix, table: &Table) -> Result<Vec<Table>, F
     if !margins.iter().all(|margin| *margin < 4_294_967_296) {
         return Err(Fail::from("large margins"));
     }
-    Ok(plain_fibre(alloc, matrix, table)?)
+    Ok(plain_fiber(alloc, matrix, table)?)
 }
 
 /// The lines of tables among those of a text of rings, in the order of their bytes.

@@ -1,6 +1,7 @@
 //! The gate of the walk.
 
 use crate::run::reach;
+use crate::walks::{Answer, walked};
 use mb_outside::Gate;
 use std::sync::atomic::Ordering::SeqCst;
 use std::sync::atomic::{AtomicBool, AtomicU64};
@@ -40,5 +41,18 @@ fn the_gate_is_passed_once_a_table(rt: HostRuntime) -> Result<(), Fail> {
     )?;
     assert!(rt; text.as_slice().starts_with(b"tables 5\n"));
     assert!(rt; gate.next.load(SeqCst) == 5 && !gate.astray.load(SeqCst));
+    Ok(())
+}
+
+// By hand: the start is expanded, and its one neighbour is a table too many.
+#[test]
+fn the_gate_is_passed_before_a_table_is_expanded(rt: HostRuntime) -> Result<(), Fail> {
+    let gate = InTurn {
+        next: AtomicU64::new(0),
+        astray: AtomicBool::new(false),
+    };
+    let answer = walked(&rt, rt.alloc(), &gate, &[0, 1], 1)?;
+    assert!(rt; answer == Answer::TooLarge { seen: 2 });
+    assert!(rt; gate.next.load(SeqCst) == 1 && !gate.astray.load(SeqCst));
     Ok(())
 }

@@ -1,4 +1,5 @@
-//! The tests of all crates: what no contract says, as tables of cases.
+//! The tests of the commands and of the crates that they stand on: what no contract says, as
+//! tables of cases.
 //!
 //! Expected values come from hand computation, from 4ti2, from a plain program or from worked
 //! examples, never from the program's own output.
@@ -8,6 +9,8 @@
 mod fibers;
 #[cfg(test)]
 mod gates;
+#[cfg(test)]
+mod lines;
 #[cfg(test)]
 mod matrices;
 #[cfg(test)]
@@ -22,3 +25,5 @@ mod run;
 mod tables;
 #[cfg(test)]
 mod texts;
+#[cfg(test)]
+mod walks;

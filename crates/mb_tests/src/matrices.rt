@@ -1,5 +1,7 @@
 //! Design matrices.
 
+ghost use Rattle.std.specs.Prelude.{◌≡◌, IfOk, length};
+
 use mb_matrix::{Matrix, MatrixFault};
 use mb_tables::{Move, Table};
 use std::alloc::Global;
@@ -58,28 +60,69 @@ fn refusals_in_order(rt: HostRuntime) -> Result<(), Fail> {
     Ok(())
 }
 
+/// The design matrix of the rows 2 1 0 and 0 1 2.
+fn design(alloc: Global) -> Result<Matrix, MatrixFault> {
+    Matrix::try_new(alloc, 2, 3, &[2, 1, 0, 0, 1, 2])
+}
+
+/// The table of these counts, if it has the cells of the matrix.
+fn table(alloc: Global, matrix: &Matrix, counts: &[u32]) -> Result<Table, Fail>
+    ensures { IfOk result (λ t. length t ≡ length matrix.now.columns) }
+{
+    let table = Table::try_new(alloc, counts)?;
+    if table.len() != matrix.cols() {
+        return Err(Fail::from("another number of cells"));
+    }
+    Ok(table)
+}
+
+/// Whether a table has these margins, one by one and together.
+fn has_margins(alloc: Global, counts: &[u32], wanted: [u64; 2]) -> Result<bool, Fail> {
+    let matrix = design(alloc)?;
+    let table = table(alloc, &matrix, counts)?;
+    let margins = matrix.margins(alloc, &table)?;
+    if matrix.rows() != 2 {
+        return Ok(false);
+    }
+    Ok(
+        margins.as_slice() == wanted.as_slice()
+            && matrix.margin(0, &table) == wanted[0]
+            && matrix.margin(1, &table) == wanted[1],
+    )
+}
+
+/// Whether two tables have the same margins.
+fn are_alike(alloc: Global, a: &[u32], b: &[u32]) -> Result<bool, Fail> {
+    let matrix = design(alloc)?;
+    let (a, b) = (table(alloc, &matrix, a)?, table(alloc, &matrix, b)?);
+    Ok(matrix.same_margins(&a, &b))
+}
+
+/// Whether these are the entries of a move of the matrix.
+fn is_move(alloc: Global, entries: &[i32]) -> Result<bool, Fail> {
+    let matrix = design(alloc)?;
+    let z = Move::try_new(alloc, entries)?;
+    Ok(z.len() == matrix.cols() && matrix.is_move(&z))
+}
+
+/// Whether the matrix has its entries.
+fn are_entries_kept(alloc: Global) -> Result<bool, Fail> {
+    let matrix = design(alloc)?;
+    if matrix.rows() != 2 || matrix.cols() != 3 {
+        return Ok(false);
+    }
+    Ok(matrix.entry(0, 0) == 2 && matrix.entry(1, 0) == 0 && matrix.entry(1, 2) == 2)
+}
+
 // By hand, under the rows 2 1 0 and 0 1 2: margins 2 2 of 1 0 1, and of 0 2 0.
 #[test]
 fn margins(rt: HostRuntime) -> Result<(), Fail> {
     let alloc = rt.alloc();
-    let matrix = Matrix::try_new(alloc, 2, 3, &[2, 1, 0, 0, 1, 2])?;
-    let (a, b, c) = (
-        Table::try_new(alloc, &[1, 0, 1])?,
-        Table::try_new(alloc, &[0, 2, 0])?,
-        Table::try_new(alloc, &[2, 0, 0])?,
-    );
-    let (z, y) = (
-        Move::try_new(alloc, &[-1, 2, -1])?,
-        Move::try_new(alloc, &[1, -2, 0])?,
-    );
-    let lengths = [a.len(), b.len(), c.len(), z.len(), y.len()];
-    if lengths != [3; 5] || matrix.cols() != 3 || matrix.rows() != 2 {
-        return Err(Fail::from("other lengths"));
-    }
-    assert!(rt; matrix.margins(alloc, &a)?.as_slice() == [2, 2].as_slice());
-    assert!(rt; matrix.margin(0, &c) == 4 && matrix.margin(1, &c) == 0);
-    assert!(rt; matrix.same_margins(&a, &b) && !matrix.same_margins(&a, &c));
-    assert!(rt; matrix.is_move(&z) && !matrix.is_move(&y));
-    assert!(rt; matrix.entry(0, 0) == 2 && matrix.entry(1, 0) == 0 && matrix.entry(1, 2) == 2);
+    assert!(rt; has_margins(alloc, &[1, 0, 1], [2, 2])?);
+    assert!(rt; has_margins(alloc, &[2, 0, 0], [4, 0])?);
+    assert!(rt; are_alike(alloc, &[1, 0, 1], &[0, 2, 0])?);
+    assert!(rt; !are_alike(alloc, &[1, 0, 1], &[2, 0, 0])?);
+    assert!(rt; is_move(alloc, &[-1, 2, -1])? && !is_move(alloc, &[1, -2, 0])?);
+    assert!(rt; are_entries_kept(alloc)?);
     Ok(())
 }

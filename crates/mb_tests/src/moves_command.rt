@@ -24,7 +24,6 @@ fn refused(files: Bodies, line: &'static [u8]) -> Case {
 // order of work.
 #[test]
 fn answers_and_refusals(rt: HostRuntime) -> Result<(), Fail> {
-    let no_request: &[u8] = b"refused Words\n";
     let cases = [
         over(BOTH, Status::Done, b"moves 1\n"),
         over(
@@ -55,32 +54,64 @@ fn answers_and_refusals(rt: HostRuntime) -> Result<(), Fail> {
             &[("m.mat", M22), ("m.mar", b"1 4\n1 -1 -1")],
             b"refused TooFew file 2 found 3 wanted 4\n",
         ),
-        Case::new(&["moves", "m.mat"], BOTH, Status::Words, no_request),
-        Case::new(
-            &["Moves", "m.mat", "m.mar"],
-            BOTH,
-            Status::Words,
-            no_request,
-        ),
-        Case::new(&[], BOTH, Status::Words, no_request),
     ];
     assert_eq!(rt; first_wrong(&rt, rt.alloc(), &cases)?, None);
     Ok(())
 }
 
-// A failing read answers a fault, and one that isn't made does nothing. A put that fails takes
-// nothing where it is listed, and as much as the sink has room for where it is too long.
+/// These words over both files are no request.
+fn no_request(words: &'static [&'static str]) -> Case {
+    Case::new(words, BOTH, Status::Words, b"refused Words\n")
+}
+
+// By hand: two files and no option. The name of a file is the word as it stands, with a blank at
+// its end too.
+#[test]
+fn words(rt: HostRuntime) -> Result<(), Fail> {
+    let cases = [
+        no_request(&["moves", "m.mat"]),
+        no_request(&["Moves", "m.mat", "m.mar"]),
+        no_request(&[]),
+        no_request(&["moves", "m.mat", "m.mar", "--limit", "5"]),
+        Case::new(
+            &["moves", "m.mat ", "m.mar"],
+            &[("m.mat ", M22), ("m.mar", MOVE)],
+            Status::Done,
+            b"moves 1\n",
+        ),
+        over(
+            &[("m.mat ", M22), ("m.mar", MOVE)],
+            Status::Refused,
+            b"refused NoFile file 1\n",
+        ),
+    ];
+    assert_eq!(rt; first_wrong(&rt, rt.alloc(), &cases)?, None);
+    Ok(())
+}
+
+// A failing read answers a fault, before any text is judged, and one that isn't made does nothing.
+// One put is made, so that a failing second put isn't met. A put that fails takes nothing where it
+// is listed, and as much as the sink has room for where it is too long.
 #[test]
 fn faults(rt: HostRuntime) -> Result<(), Fail> {
     let done = over(BOTH, Status::Done, b"moves 1\n");
     let failed = over(BOTH, Status::Outside, b"refused Outside\n");
     let nothing_put = over(BOTH, Status::Outside, b"");
     let no_files = over(&[], Status::Outside, b"refused Outside\n");
+    let no_texts = over(
+        &[("m.mat", b"x"), ("m.mar", b"y")],
+        Status::Outside,
+        b"refused Outside\n",
+    );
     let cases = [
         failed.with_failing_reads(&[1]),
         failed.with_failing_reads(&[2]),
         done.with_failing_reads(&[3]).with_sink(1000, &[2]),
         no_files.with_failing_reads(&[1]),
+        no_texts.with_failing_reads(&[1]),
+        no_texts.with_failing_reads(&[2]),
+        done.with_sink(1000, &[2]),
+        refused(&[("m.mat", M22)], b"refused NoFile file 2\n").with_sink(1000, &[2]),
         nothing_put.with_sink(1000, &[1]),
         nothing_put.with_failing_reads(&[2]).with_sink(1000, &[1]),
         done.with_sink(8, &[]),

@@ -31,17 +31,17 @@ fn over(files: Bodies, status: Status, output: &'static [u8]) -> Case {
     Case::new(WORDS, files, status, output)
 }
 
+const LIMIT_FOUR: &[&str] = &["reach", "m.mat", "m.mar", "m.tab", "--limit", "4"];
+
+const LIMIT_FIVE: &[&str] = &["reach", "m.mat", "m.mar", "m.tab", "--limit", "5"];
+
 // By hand, from a worked example: the rings of a 2 x 2 table.
 #[test]
 fn rings_and_refusals(rt: HostRuntime) -> Result<(), Fail> {
-    let (four, five) = (
-        &["reach", "m.mat", "m.mar", "m.tab", "--limit", "4"],
-        &["reach", "m.mat", "m.mar", "m.tab", "--limit", "5"],
-    );
     let cases = [
         over(ALL, Status::Done, RINGS),
-        limited(five, Status::Done, RINGS),
-        limited(four, Status::Limit, b"refused TooLarge seen 5\n"),
+        limited(LIMIT_FIVE, Status::Done, RINGS),
+        limited(LIMIT_FOUR, Status::Limit, b"refused TooLarge seen 5\n"),
         over(
             &[
                 ("m.mat", M22),
@@ -65,9 +65,61 @@ fn rings_and_refusals(rt: HostRuntime) -> Result<(), Fail> {
             Status::Refused,
             b"refused ZeroColumn cell 1\n",
         ),
+    ];
+    assert_eq!(rt; first_wrong(&rt, rt.alloc(), &cases)?, None);
+    Ok(())
+}
+
+// Three files are read, each once, so that a failing fourth read isn't met, nor a failing second
+// put.
+#[test]
+fn faults(rt: HostRuntime) -> Result<(), Fail> {
+    let cases = [
         over(ALL, Status::Outside, b"refused Outside\n").with_failing_reads(&[3]),
+        over(ALL, Status::Done, RINGS)
+            .with_failing_reads(&[4])
+            .with_sink(1000, &[2]),
+        limited(LIMIT_FOUR, Status::Limit, b"refused TooLarge seen 5\n").with_sink(1000, &[2]),
+        over(
+            &[("m.mat", b"x"), ("m.mar", b"x"), ("m.tab", b"x")],
+            Status::Outside,
+            b"refused Outside\n",
+        )
+        .with_failing_reads(&[3]),
         over(ALL, Status::Outside, b"tables 5\nring").with_sink(13, &[]),
         over(ALL, Status::Outside, b"").with_sink(1000, &[1]),
+    ];
+    assert_eq!(rt; first_wrong(&rt, rt.alloc(), &cases)?, None);
+    Ok(())
+}
+
+/// `reach m.mat m.mar m.tab` and these words over all three files are no request.
+fn no_request(words: &'static [&'static str]) -> Case {
+    limited(words, Status::Words, b"refused Words\n")
+}
+
+// By hand: an option has one value from 1 to 100,000, without leading zeros, and is given at most
+// once.
+#[test]
+fn words(rt: HostRuntime) -> Result<(), Fail> {
+    let cases = [
+        no_request(&["reach", "m.mat", "m.mar"]),
+        no_request(&["reach", "m.mat", "m.mar", "m.tab", "m.tab"]),
+        no_request(&["reach", "m.mat", "m.mar", "m.tab", "--limit"]),
+        no_request(&["reach", "m.mat", "m.mar", "m.tab", "--limit", "0"]),
+        no_request(&["reach", "m.mat", "m.mar", "m.tab", "--limit", "100001"]),
+        no_request(&["reach", "m.mat", "m.mar", "m.tab", "--limit", "05"]),
+        no_request(&["reach", "m.mat", "m.mar", "m.tab", "--limit", "5 "]),
+        no_request(&["reach", "m.mat", "m.mar", "m.tab", "--Limit", "5"]),
+        no_request(&[
+            "reach", "m.mat", "m.mar", "m.tab", "--limit", "5", "--limit", "5",
+        ]),
+        no_request(&["reach", "--limit", "5", "m.mat", "m.mar", "m.tab"]),
+        limited(
+            &["reach", "m.mat", "m.mar", "m.tab", "--limit", "100000"],
+            Status::Done,
+            RINGS,
+        ),
     ];
     assert_eq!(rt; first_wrong(&rt, rt.alloc(), &cases)?, None);
     Ok(())

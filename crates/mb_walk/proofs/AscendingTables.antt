@@ -13,7 +13,7 @@ use Rattle.mb_matrix.specs.Ascending.{Ascends}
 use Rattle.mb_tables.proofs.ListLaws.{In-filter_only}
 use Rattle.mb_tables.specs.Lists.{In}
 use Rattle.mb_walk.proofs.DistinctTables.{distinct-cons, distinct-head, distinct-none, distinct-tail}
-use Rattle.mb_walk.specs.Found.{AreDistinct}
+use Rattle.mb_walk.specs.loops.Found.{AreDistinct}
 
 -- no table comes before itself
 pub Less-never_itself : (u : List ℕ) → slice_cmp nat_cmp u u ≡ Less → ⊥

@@ -1,5 +1,5 @@
 -- Lists in which no table stands twice.
-use Rattle.mb_matrix.proofs.AscendingLists.{occurs_never}
+use Rattle.mb_matrix.proofs.AscendingLists.{none_if, occurs_never, one_if}
 use Rattle.mb_matrix.specs.Ascending.{occurrences}
 use Rattle.std.proofs.lemmas.List.Sums.{sum_by-cons}
 use Rattle.std.proofs.Common.{Bool, List, [], arith, cond, false, inl, inr, length, nat_eq, refl, subst, sym, true, ℕ, ◌++◌, ◌+◌, ◌∙◌, ◌∷◌, ◌≡◌, ◌≤◌, ◌⊎◌}
@@ -12,8 +12,8 @@ use Rattle.std.specs.List.Sorted.{IsPermutation}
 use lib.Pointwise.{bytes_decides, pointwise}
 use Rattle.mb_tables.proofs.ListLaws.{In-cases, In-right}
 use Rattle.mb_tables.specs.Lists.{In}
-use Rattle.mb_walk.proofs.TableTests.{In-from_stands_in, stands_in-yes}
-use Rattle.mb_walk.specs.Found.{AreDistinct}
+use Rattle.mb_tables.proofs.StepTests.{In-from_stands_in, stands_in-yes}
+use Rattle.mb_walk.specs.loops.Found.{AreDistinct}
 
 -- a table that equals none of the list
 none-equal : (x : List ℕ) (xs : List (List ℕ)) → (In x xs → ⊥) →
@@ -125,16 +125,6 @@ pub length-le_distinct : (xs ys : List (List ℕ)) → AreDistinct xs →
 length-le_distinct xs ys d h =
     length-le_from_is_member nat_list_eq_equiv xs ys d
     (λ v e. stands_in-yes ys v (h v (In-from_stands_in xs v e)))
-
--- one where the test passes
-one_if : (t : Bool) → t ≡ true → cond {A = ℕ} t 1 0 ≡ 1
-one_if true e = refl
-one_if false e = cc
-
--- none where it fails
-none_if : (t : Bool) → t ≡ false → cond {A = ℕ} t 1 0 ≡ 0
-none_if true e = cc
-none_if false e = refl
 
 -- a table of a list in which no table stands twice stands there once
 pub occurrences-distinct : (v : List ℕ) (list : List (List ℕ)) → AreDistinct list → In v list →

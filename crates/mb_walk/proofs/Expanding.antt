@@ -1,21 +1,12 @@
 -- The searches of one table and of a ring, step by step.
-use Rattle.std.proofs.Common.{Err, List, Ok, Result, Some, inl, length, slice_get, subst, sym, ℕ, ℤ, ◌+◌, ◌≡◌, ◌≤◌, ◌⊎◌}
-use Rattle.std.specs.Prelude.{IfErr}
-use Rattle.std.specs.Result.{IsErrAnd}
-use Rattle.mb_tables.specs.Step.{Moved, OneApart}
+use Rattle.std.proofs.Common.{List, Some, inl, length, slice_get, subst, sym, ℕ, ℤ, ◌+◌, ◌≡◌, ◌≤◌, ◌⊎◌}
+use Rattle.mb_tables.specs.Step.{IsNear, Moved, OneApart}
 use Rattle.mb_tables.specs.declared.sign.Sign.TheVariants.{Minus, Plus}
 use Rattle.mb_walk.proofs.PlacesBelow.{NearBelow, SteppedBelow, all-near, all-stepped, below-cases, below-more, some-near, some-stepped, stepped-cases, stepped-more}
 use Rattle.mb_walk.proofs.SearchSteps.{IsSearching, finds-none, finds-same, finds-then, over-same, over-then}
-use Rattle.mb_walk.specs.Found.{FindsMore, IsNear, IsSearchFault}
+use Rattle.mb_walk.specs.loops.Found.{FindsMore, IsSearchFault}
 use Rattle.mb_walk.specs.Ring.{Ring}
 use Rattle.mb_walk.specs.declared.fault.WalkFault.{WalkFault}
-
--- a refusal that is handed on has the cause that it came with
-pub handed_on : {T : Type 0} (r : Result T WalkFault) (fault : WalkFault)
-    (HasCause : WalkFault → Type 0) →
-    IsErrAnd r (λ e. e ≡ fault) → HasCause fault → IfErr r HasCause
-handed_on (Ok x) fault HasCause h cause = tt
-handed_on (Err e) fault HasCause h cause = subst HasCause (sym h) cause
 
 -- a search that has not begun
 pub searching-none : (IsSought : List ℕ → Type 0) (limit : ℕ) (before old : List (List ℕ)) →

@@ -1,13 +1,11 @@
 pub mod AscendingTables
 pub mod DistinctTables
 pub mod Expanding
-pub mod FibreSteps
+pub mod FiberSteps
 pub mod PlacesBelow
 pub mod Reaching
 pub mod RingDistances
 pub mod RingEnds
 pub mod RingSteps
 pub mod SearchSteps
-pub mod StepsBack
-pub mod TableTests
 pub mod Walking

@@ -2,9 +2,8 @@
 use Rattle.std.proofs.Common.{List, Some, [], ap, arith, get_or, inl, inr, length, slice_get, subst, suc, sym, zero, ℕ, ℤ, ◌+◌, ◌<◌, ◌∷◌, ◌≡◌, ◌⊎◌}
 use Rattle.mb_tables.proofs.ListLaws.{place-in, place-within}
 use Rattle.mb_tables.specs.Lists.{In}
-use Rattle.mb_tables.specs.Step.{Adds, Moved, OneApart}
+use Rattle.mb_tables.specs.Step.{Adds, IsNear, Moved, OneApart}
 use Rattle.mb_tables.specs.declared.sign.Sign.TheVariants.{Minus, Plus}
-use Rattle.mb_walk.specs.Found.{IsNear}
 use Rattle.mb_walk.specs.Ring.{Ring}
 
 -- the fact holds of some element before place i
@@ -86,12 +85,7 @@ stepped-cases moves i move u v e h =
       | inr k ↦ elim k [ inl a ↦ inl (inr a) | inr a ↦ inr a ]
     ]
 
--- all moves
-pub stepped-all : (moves : List (List ℤ)) (u v : List ℕ) → SteppedBelow moves (length moves) u v →
-    OneApart moves u v
-stepped-all moves u v h = (h.place, h.element, h.is, h.holds)
-
--- and the other way round
+-- a step is by one of all moves
 pub all-stepped : (moves : List (List ℤ)) (u v : List ℕ) → OneApart moves u v →
     SteppedBelow moves (length moves) u v
 all-stepped moves u v h =

@@ -1,15 +1,14 @@
 -- What each part of a search adds to the visited tables.
-use Rattle.std.proofs.Common.{Bool, IsTrue, List, [], ap, append-nil, append_assoc, arith, false, inl, inr, length, length-append, not, refl, subst, sym, true, ℕ, ◌++◌, ◌+◌, ◌↔◌, ◌∙◌, ◌∷◌, ◌≡◌, ◌≤◌, ◌⊎◌}
+use Rattle.std.proofs.Common.{Bool, IsTrue, List, [], ap, append-nil, append_assoc, arith, false, inl, inr, length, length-append, not, refl, subst, sym, true, ℕ, ◌++◌, ◌↔◌, ◌∙◌, ◌∷◌, ◌≡◌, ◌≤◌, ◌⊎◌}
 use Rattle.std.proofs.lemmas.List.Sorted.{IsPermutation-append_left, IsPermutation-append_right, IsPermutation-refl, IsPermutation-sym, IsPermutation-to_front, IsPermutation-trans, length_permutation}
 use Rattle.std.specs.Bool.{MatchBool}
 use Rattle.std.specs.List.Sorted.{IsPermutation}
 use Rattle.mb_tables.proofs.ListLaws.{In-cases, In-left, In-right}
 use Rattle.mb_tables.specs.Counts.{AreCounts}
-use Rattle.mb_tables.specs.Lists.{In}
+use Rattle.mb_tables.specs.Lists.{In, stands_in}
 use Rattle.mb_walk.proofs.DistinctTables.{In-permutation, distinct-append, distinct-cons, distinct-none, distinct-permutation, distinct-push}
-use Rattle.mb_walk.proofs.TableTests.{In-from_stands_in, stands_in-no, stands_in-yes}
-use Rattle.mb_walk.specs.Found.{AreDistinct, Exceeds, Finds, FindsMore, IsSearchFault}
-use Rattle.mb_walk.specs.Ring.{stands_in}
+use Rattle.mb_tables.proofs.StepTests.{In-from_stands_in, stands_in-no, stands_in-yes}
+use Rattle.mb_walk.specs.loops.Found.{AreDistinct, Exceeds, Finds, FindsMore, IsSearchFault}
 use Rattle.mb_walk.specs.declared.fault.WalkFault.{WalkFault}
 use Rattle.mb_walk.specs.declared.fault.WalkFault.TheVariants.{OutOfMemory, TooLarge}
 
@@ -185,15 +184,6 @@ over-same IsFirst IsSecond limit before (TooLarge seen) to h = (
     many = h.2.many;
   },
 )
-
--- how many tables are visited after a search
-pub finds-length : (IsSought : List ℕ → Type 0) (before after old new : List (List ℕ)) →
-    FindsMore IsSought before after old new →
-    length after + length old ≡ length before + length new
-finds-length IsSought before after old new f =
-    let e = length_permutation (before ++ f.found) after f.finds.visited in
-    let g = length-append before f.found in
-    let h = ap length f.listed ∙ length-append old f.found in omega arith
 
 -- a search on its way, within the limit
 pub record IsSearching (IsSought : List ℕ → Type 0) (limit : ℕ)

@@ -1,7 +1,5 @@
 pub mod Distance
-pub mod Faults
-pub mod Found
 pub mod Laws
 pub mod Ring
-pub mod RingList
-pub mod Turn
+pub mod Walk
+pub mod loops

@@ -1,31 +1,13 @@
 -- Rings of the fiber graph: the tables at each distance from a start.
-use Rattle.std.specs.Cmp.Lexicographic.{pointwise}
-use Rattle.std.specs.List.{filter, flat_map, list_any, take_while}
-use Rattle.std.specs.Ordering.{int_eq}
-use Rattle.std.specs.Prelude.{Bool, List, [], false, length, nat_eq, not, pos, suc, true, zero, ℕ, ℤ, ◌&&◌, ◌++◌, ◌+ℤ◌, ◌||◌, ◌∷◌}
-use Rattle.mb_matrix.specs.Matrix.{Design, fibre_of}
+use Rattle.std.specs.List.{filter, flat_map, take_while}
+use Rattle.std.specs.Prelude.{Bool, List, [], false, length, not, suc, true, zero, ℕ, ℤ, ◌&&◌, ◌++◌, ◌∷◌}
+use Rattle.mb_matrix.specs.Matrix.{Design, fiber_of}
+use Rattle.mb_tables.specs.Lists.{stands_in}
+use Rattle.mb_tables.specs.Step.{is_near}
 
 -- a ring is a list of tables
 abbrev pub Ring : Type 0
 Ring = List (List ℕ)
-
--- whether the first table and the move make the second
-unfoldable pub adds : List ℕ → List ℤ → List ℕ → Bool
-adds [] [] [] = true
-adds (x ∷ u) (z ∷ move) (y ∷ v) = int_eq (pos y) (pos x +ℤ z) && adds u move v
-adds _ _ _ = false
-
--- whether one of the moves, added to the first table or subtracted from it, makes the second
-abbrev pub is_step : List (List ℤ) → List ℕ → List ℕ → Bool
-is_step moves u v = list_any (λ move. adds u move v || adds v move u) moves
-
--- whether the table is one step from a table of the ring
-abbrev pub is_near : List (List ℤ) → Ring → List ℕ → Bool
-is_near moves ring v = list_any (λ u. is_step moves u v) ring
-
--- whether the table stands in the list
-abbrev pub stands_in : List (List ℕ) → List ℕ → Bool
-stands_in list v = list_any (pointwise nat_eq v) list
 
 -- all tables of the rings, ring after ring
 abbrev pub tables_of : List Ring → List (List ℕ)
@@ -45,26 +27,26 @@ is_filled (u ∷ ring) = true
 -- the ring that follows these: in the fiber's order, the tables that are one step from a table
 -- of the last ring and stand in none of the rings
 unfoldable pub next_ring : Ring → List (List ℤ) → List Ring → Ring
-next_ring fibre moves rings =
-    filter (λ v. is_near moves (last_ring rings) v && not (stands_in (tables_of rings) v)) fibre
+next_ring fiber moves rings =
+    filter (λ v. is_near moves (last_ring rings) v && not (stands_in (tables_of rings) v)) fiber
 
 -- the rings, and the one that follows them
 unfoldable pub with_next : Ring → List (List ℤ) → List Ring → List Ring
-with_next fibre moves rings = rings ++ next_ring fibre moves rings ∷ []
+with_next fiber moves rings = rings ++ next_ring fiber moves rings ∷ []
 
 -- rings 0 to k, of which ring 0 is the start alone; any other may be empty
 unfoldable pub rings_to : Ring → List (List ℤ) → List ℕ → ℕ → List Ring
-rings_to fibre moves start zero = (start ∷ []) ∷ []
-rings_to fibre moves start (suc k) = with_next fibre moves (rings_to fibre moves start k)
+rings_to fiber moves start zero = (start ∷ []) ∷ []
+rings_to fiber moves start (suc k) = with_next fiber moves (rings_to fiber moves start k)
 
 -- the rings that a start has within a fiber: they end before the first empty one
 unfoldable pub rings_within : Ring → List (List ℤ) → List ℕ → List Ring
-rings_within fibre moves start =
-    take_while is_filled (rings_to fibre moves start (length fibre))
+rings_within fiber moves start =
+    take_while is_filled (rings_to fiber moves start (length fiber))
 
 -- the rings of a start: of the tables of its fiber
 abbrev pub rings_of : Design → List (List ℤ) → List ℕ → List Ring
-rings_of matrix moves start = rings_within (fibre_of matrix start) moves start
+rings_of matrix moves start = rings_within (fiber_of matrix start) moves start
 
 -- the tables that the moves reach from the start
 abbrev pub reached : Design → List (List ℤ) → List ℕ → List (List ℕ)

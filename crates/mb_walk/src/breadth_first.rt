@@ -1,9 +1,9 @@
 //! The walk, ring by ring.
 
-ghost use Rattle.std.specs.Prelude.{◌≡◌, ◌<◌, ◌≤◌, ◌^◌, All, IfErr, IfOk, OnOk, length};
+ghost use Rattle.std.specs.Prelude.{◌≡◌, ◌<◌, ◌≤◌, ◌^◌, All, length};
 ghost use Rattle.mb_matrix.specs.Matrix.{IsMove, margins_of};
-ghost use Rattle.mb_walk.specs.Faults.{IsWalkFault};
-ghost use Rattle.mb_walk.specs.Ring.{reached, rings_of};
+ghost use Rattle.mb_tables.specs.Answers.{Gives};
+ghost use Rattle.mb_walk.specs.Walk.{most_tables, walk_cause, walk_of};
 
 use crate::fault::WalkFault;
 use crate::next::next_ring;
@@ -15,14 +15,14 @@ use mb_tables::{Moves, Table};
 use std::alloc::Global;
 use std::thread::Threads;
 
-/// The rings of a start under moves of a matrix: ring 0 is the start alone, and ring k + 1 has
-/// the tables of the start's fiber that are one step from a table of ring k and stand in no
-/// earlier ring, in ascending order. They end before the first empty ring.
+/// The rings of a start under moves of a matrix: ring 0 is the start alone, and the next ring has
+/// what a step leads to from the last one and no ring has yet, in ascending order. They end before
+/// the first empty ring.
 ///
-/// The start and the moves have the matrix's cells, each move keeps all margins, and each margin
-/// of the start fits 32 bits. The limit is 1 to 2,000,000 tables, and the walk is done by one
-/// worker, number 0. Before a table is expanded the worker passes the gate; its item is the
-/// number of tables in earlier rings and the table's place in its ring added up.
+/// The start and the moves have the matrix's cells, each move keeps all margins, and each margin of
+/// the start fits 32 bits. The limit is 1 to 2,000,000 tables, and the walk is done by one worker,
+/// number 0. Before a table is expanded the worker passes the gate, with the number of tables that
+/// stand before this one in all rings.
 ///
 /// `TooLarge` comes exactly where more tables than the limit are reached.
 pub fn walk<R: Threads + Sync, G: Gate + Sync>(
@@ -40,12 +40,10 @@ pub fn walk<R: Threads + Sync, G: Gate + Sync>(
     requires moves { All (IsMove matrix.now) moves.now.rows }
     requires margins { All (λ margin. margin < 2 ^ 32) (margins_of matrix.now start.now) }
     requires some { 1 ≤ limit }
-    requires small { limit ≤ 2000000 }
+    requires small { limit ≤ most_tables }
     requires one_worker { workers ≡ 1 }
-    ensures rings { IfOk result (λ rings. rings ≡ rings_of matrix.now moves.now.rows start.now) }
-    ensures within { OnOk result (length (reached matrix.now moves.now.rows start.now) ≤ limit) }
-    ensures refused { IfErr result (IsWalkFault limit
-        (length (reached matrix.now moves.now.rows start.now))) }
+    ensures { Gives walk_cause (λ rings. rings) result
+        (walk_of limit matrix.now moves.now.rows start.now) }
 {
     prove_eq!(matrix.cols(), start.len());
     let mut visited = Visited::new(alloc);

@@ -1,26 +1,16 @@
 //! The tables one step from a table.
 
 ghost use Rattle.std.specs.Prelude.{◌≡◌, ◌≤◌, IfErr, OnOk, length};
-ghost use Rattle.mb_tables.specs.Counts.{AreCounts};
 ghost use Rattle.mb_tables.specs.Step.{Moved, OneApart};
-ghost use Rattle.mb_walk.specs.Found.{FindsMore, IsSearchFault};
-ghost use Rattle.mb_walk.specs.Turn.{turned};
+ghost use Rattle.mb_walk.specs.Walk.{most_tables};
+ghost use Rattle.mb_walk.specs.loops.Found.{FindsMore, IsSearchFault};
 
 use crate::fault::WalkFault;
 use crate::visited::Visited;
 use mb_tables::{Move, Moves, Sign, Table};
 
-/// The sign that undoes a step.
-fn opposite(sign: Sign) -> Sign
-    ensures { result ≡ turned sign }
-{
-    match sign {
-        Sign::Plus => Sign::Minus,
-        Sign::Minus => Sign::Plus,
-    }
-}
-
 /// Adds the table to those visited and to the next ring, where it is new.
+#[inline(never)]
 fn keep_new(
     table: &Table,
     limit: u32,
@@ -28,7 +18,7 @@ fn keep_new(
     next: &mut Vec<Table>,
 ) -> Result<(), WalkFault>
     requires room { length visited.old ≤ limit }
-    requires small { limit ≤ 2000000 }
+    requires small { limit ≤ most_tables }
     ensures found { OnOk result (FindsMore (λ v. v ≡ table.now)
         visited.old visited.new next.old.items next.new.items) }
     ensures room { OnOk result (length visited.new ≤ limit) }
@@ -47,6 +37,7 @@ fn keep_new(
 
 /// Adds what the move makes of the table, where this is a table and new. The table is moved and
 /// moved back.
+#[inline(always)]
 fn take_step(
     table: &mut Table,
     z: &Move,
@@ -56,9 +47,8 @@ fn take_step(
     next: &mut Vec<Table>,
 ) -> Result<(), WalkFault>
     requires width { length table.old ≡ length z.now }
-    requires counts { AreCounts table.old }
     requires room { length visited.old ≤ limit }
-    requires small { limit ≤ 2000000 }
+    requires small { limit ≤ most_tables }
     ensures found { OnOk result (FindsMore (Moved sign table.old z.now)
         visited.old visited.new next.old.items next.new.items) }
     ensures room { OnOk result (length visited.new ≤ limit) }
@@ -69,8 +59,7 @@ fn take_step(
         return Ok(());
     }
     keep_new(table, limit, visited, next)?;
-    let undone = table.apply(z, opposite(sign));
-    prove!(undone);
+    table.take_back(z, sign);
     Ok(())
 }
 
@@ -83,9 +72,8 @@ pub fn expand(
     next: &mut Vec<Table>,
 ) -> Result<(), WalkFault>
     requires width { length table.now ≡ moves.now.width }
-    requires counts { AreCounts table.now }
     requires room { length visited.old ≤ limit }
-    requires small { limit ≤ 2000000 }
+    requires small { limit ≤ most_tables }
     ensures found { OnOk result (FindsMore (OneApart moves.now.rows table.now)
         visited.old visited.new next.old.items next.new.items) }
     ensures room { OnOk result (length visited.new ≤ limit) }

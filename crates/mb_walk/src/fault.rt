@@ -8,7 +8,7 @@ use std::alloc::{AllocError, AllocFailed};
 pub enum WalkFault {
     /// More tables than the limit are reached. So many were seen: the limit and one more.
     TooLarge { seen: u32 },
-    /// No memory was to be had.
+    /// Out of memory.
     OutOfMemory,
 }
 

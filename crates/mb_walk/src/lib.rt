@@ -12,5 +12,8 @@ mod visited;
 
 pub use breadth_first::walk;
 pub use fault::WalkFault;
-pub use laws::{each_is_reached_once, reached_is_joined, rings_are_by_distance};
+pub use laws::{
+    each_is_reached_once, markov_basis_reaches_fiber, reached_is_joined, rings_are_by_distance,
+    rings_ascend,
+};
 pub use rings::Rings;

@@ -2,9 +2,10 @@
 
 ghost use Rattle.std.specs.Prelude.{◌≡◌, ◌≤◌, IfErr, IfOk, List, OnOk, length, ℕ};
 ghost use Rattle.mb_matrix.specs.Ascending.{Ascends};
-ghost use Rattle.mb_tables.specs.Counts.{AreCounts};
 ghost use Rattle.mb_tables.specs.Lists.{In};
-ghost use Rattle.mb_walk.specs.Found.{Finds, IsNear, IsSearchFault};
+ghost use Rattle.mb_walk.specs.Walk.{most_tables};
+ghost use Rattle.mb_walk.specs.loops.Found.{Finds, IsSearchFault};
+ghost use Rattle.mb_tables.specs.Step.{IsNear};
 
 use crate::expand::expand;
 use crate::fault::WalkFault;
@@ -26,10 +27,9 @@ pub fn next_ring<G: Gate>(
     gate: &G,
 ) -> Result<Vec<Table>, WalkFault>
     requires widths { (u : List ℕ) → In u ring.now → length u ≡ moves.now.width }
-    requires counts { (u : List ℕ) → In u ring.now → AreCounts u }
     requires known { length ring.now ≤ length visited.old }
     requires room { length visited.old ≤ limit }
-    requires small { limit ≤ 2000000 }
+    requires small { limit ≤ most_tables }
     ensures found { IfOk result (λ next. Finds (IsNear moves.now.rows ring.now)
         visited.old visited.new next.items) }
     ensures ascending { IfOk result (λ next. Ascends next.items) }

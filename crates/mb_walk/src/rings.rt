@@ -2,7 +2,7 @@
 
 ghost use Rattle.std.specs.Prelude.{◌^◌, ◌≡◌, ◌<◌, Some, length, slice_get, sum_by};
 ghost use Rattle.mb_walk.specs.Ring.{tables_of};
-ghost use Rattle.mb_walk.specs.RingList.{AreCounted, listed};
+ghost use Rattle.mb_walk.specs.loops.RingList.{AreCounted, listed};
 
 use mb_tables::Table;
 use std::marker::Model;
@@ -16,7 +16,7 @@ pub struct Rings {
 
 impl Model for Rings {
     ghost use Rattle.std.specs.Prelude.{List, ℕ};
-    ghost use Rattle.mb_walk.specs.RingList.{AreCounted, listed};
+    ghost use Rattle.mb_walk.specs.loops.RingList.{AreCounted, listed};
 
     ghost Value = { List (List (List ℕ)) };
 

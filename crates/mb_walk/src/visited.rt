@@ -3,7 +3,7 @@
 ghost use Rattle.std.specs.Prelude.{◌≡◌, ◌↔◌, ◌∷◌, [], IsTrue, OnErr, OnOk, length};
 ghost use Rattle.std.specs.List.Sorted.{IsPermutation};
 ghost use Rattle.mb_tables.specs.Lists.{In};
-ghost use Rattle.mb_walk.specs.Found.{AreDistinct};
+ghost use Rattle.mb_walk.specs.loops.Found.{AreDistinct};
 
 use mb_tables::{OutOfMemory, Table};
 use std::alloc::Global;

@@ -1,62 +1,51 @@
 //! `moves MATRIX MOVES`.
+ghost use Rattle.std.specs.Prelude.{◌≡◌, IfOk};
+ghost use Rattle.mb_desk.specs.Decision.{DoesFiles};
+ghost use Rattle.mb_desk.specs.MovesCommand.{moves_count, moves_line, moves_plan};
+ghost use Rattle.mb_desk.specs.Needs.{FilesAlone, Touches};
 
-ghost use Rattle.std.specs.Prelude.{◌≡◌, ◌≢◌, Err, IfOk, IfSome, Some, string_bytes};
-ghost use Rattle.mb_desk.specs.Decide.{answer_to};
-ghost use Rattle.mb_desk.specs.Decision.{Follows};
-ghost use Rattle.mb_desk.specs.MovesCommand.{moves_count, moves_line};
-ghost use Rattle.mb_desk.specs.Words.{asked_moves};
-ghost use Rattle.mb_outside.specs.Causes.{HasCause};
-
+use crate::judging::{count_tested, matrix_text};
+use crate::plans::{Change, Plan, Stop};
 use crate::reading::read_file;
-use crate::refusals::Refusal;
 use crate::requests::MovesWords;
-use crate::texts::{count_tested, matrix_text};
+use crate::texts::Body;
 use mb_outside::Files;
 use std::alloc::{AllocError, Global};
 
 /// Reads both files, then both texts, and counts the moves.
-fn count_moves<F: Files>(
-    alloc: Global,
-    files: &mut F,
-    words: MovesWords<'_>,
-) -> Result<u32, Refusal>
-    ensures count { IfSome (F.held files.old)
-        (λ held. Follows (λ count. count) result
-        (moves_count held words.entry.matrix.now words.entry.moves.now)) }
-    ensures request { result ≢ Err Refusal.Words }
-    ensures cause { HasCause (F.faults files.old) (F.faults files.new)
-        (result ≡ Err Refusal.Outside) }
-    ensures same { F.held files.new ≡ F.held files.old }
+fn count_moves<F: Files>(alloc: Global, files: &mut F, words: &MovesWords<'_>) -> Result<u32, Stop>
+    ensures does { DoesFiles (F.held files.old) (F.held files.new)
+        (F.faults files.old) (F.faults files.new)
+        result (moves_count words.now) }
 {
-    let first = read_file(alloc, files, words.matrix, 1)?;
-    let second = read_file(alloc, files, words.moves, 2)?;
+    let first = read_file(alloc, files, &words.matrix, 1)?;
+    let second = read_file(alloc, files, &words.moves, 2)?;
     let matrix = matrix_text(alloc, first, 1)?;
     count_tested(alloc, &matrix, second, 2)
 }
 
 /// The line that is printed.
-fn count_line(alloc: Global, count: u32) -> Result<String, AllocError>
-    ensures { IfOk result (λ line. string_bytes line ≡ moves_line count) }
+fn count_line(alloc: Global, count: u32) -> Result<Body, AllocError>
+    ensures { IfOk result (λ line. line ≡ moves_line count) }
 {
-    format!(in alloc; "moves {count}\n")
+    Ok(Body::of_line(format!(in alloc; "moves {count}\n")?))
 }
 
-/// The whole answer, or the first refusal.
-pub fn answer<F: Files>(
+/// The moves of the matrix are counted. Nothing is stored.
+pub fn plan<'a, F: Files>(
     alloc: Global,
     files: &mut F,
-    words: MovesWords<'_>,
-) -> Result<Vec<u8>, Refusal>
-    ensures answer { IfSome (F.held files.old) (λ held. Follows (λ answer. answer.items) result
-        (answer_to held (Some (asked_moves words.entry)))) }
-    ensures request { result ≢ Err Refusal.Words }
-    ensures cause { HasCause (F.faults files.old) (F.faults files.new)
-        (result ≡ Err Refusal.Outside) }
-    ensures same { F.held files.new ≡ F.held files.old }
+    words: &MovesWords<'a>,
+) -> Result<Plan<'a>, Stop>
+    ensures does { DoesFiles (F.held files.old) (F.held files.new)
+        (F.faults files.old) (F.faults files.new)
+        result (moves_plan words.now) }
+    ensures touches { IfOk result (λ plan. Touches FilesAlone plan.change) }
 {
     let count = count_moves(alloc, files, words)?;
-    match count_line(alloc, count) {
-        Ok(line) => Ok(line.into_bytes()),
-        Err(_) => Err(Refusal::Memory),
-    }
+    let answer = count_line(alloc, count)?;
+    Ok(Plan {
+        answer,
+        change: Change::Nothing,
+    })
 }

@@ -1,7 +1,8 @@
 use Rattle.std.proofs.Common.{Ok, ◌≡◌}
-use Rattle.mb_moves.specs.Sheet.{entries_after, ◌>>=◌}
-use Rattle.mb_moves.specs.Testing.{entries_checked}
-use Rattle.mb_moves.specs.Text.{tokens}
+use Rattle.mb_tables.specs.Answers.{◌>>=◌}
+use Rattle.mb_moves.specs.GridText.{entries_after}
+use Rattle.mb_moves.specs.loops.RowTests.{entries_checked}
+use Rattle.mb_text.specs.Tokens.{tokens}
 use Rattle.mb_moves.proofs.entries.check_entries.Given as goal
 
 abbrev pub invariant-loop-k : goal.invariant-loop-k

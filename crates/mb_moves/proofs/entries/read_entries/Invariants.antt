@@ -1,8 +1,8 @@
 use Rattle.std.proofs.Common.{All, length, ◌+◌, ◌≡◌}
 use Rattle.mb_tables.specs.Entries.{IsEntry}
-use Rattle.mb_moves.specs.Reads.{in_front}
-use Rattle.mb_moves.specs.Sheet.{entries_after}
-use Rattle.mb_moves.specs.Text.{tokens}
+use Rattle.mb_moves.specs.loops.Reads.{in_front}
+use Rattle.mb_moves.specs.GridText.{entries_after}
+use Rattle.mb_text.specs.Tokens.{tokens}
 use Rattle.mb_moves.proofs.entries.read_entries.Given as goal
 
 abbrev pub invariant-loop-k : goal.invariant-loop-k

@@ -3,7 +3,7 @@ use Rattle.std.proofs.lemmas.List.{append-nil, take_more_set}
 use Rattle.mb_moves.proofs.SupportSteps.{support-all, support-cell, support-zero, zero_bits}
 use mir.Syntax.{w32}
 use mir.Val.{SFits, of_z}
-use Rattle.mb_moves.specs.Support.{support}
+use Rattle.mb_moves.specs.loops.Support.{support}
 use Rattle.mb_moves.proofs.kernel.list_support.Goals as goal
 use Rattle.mb_moves.proofs.kernel.list_support.Goals.{else-z-ne0, then-z-ne0}
 

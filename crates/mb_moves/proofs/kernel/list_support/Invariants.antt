@@ -1,5 +1,5 @@
 use Rattle.std.proofs.Common.{drop, take, ◌++◌, ◌≡◌, ◌≤◌}
-use Rattle.mb_moves.specs.Support.{support}
+use Rattle.mb_moves.specs.loops.Support.{support}
 use Rattle.mb_moves.proofs.kernel.list_support.Given as goal
 
 abbrev pub invariant-loop-cell : goal.invariant-loop-cell

@@ -1,8 +1,10 @@
-use Rattle.mb_moves.proofs.SaidValues.{written_matrix_given, written_moves_given}
+use Rattle.std.proofs.Common.{arith}
+use Rattle.mb_tables.specs.Limits.{most_cells, most_moves}
+use Rattle.mb_moves.proofs.WrittenTexts.{written_given}
 use Rattle.mb_moves.proofs.laws.written_is_read.Goals as goal
 
 pub returns : goal.returns
 returns c = record {
-  matrix = written_matrix_given;
-  moves = written_moves_given;
+  matrix = written_given 1 most_cells (omega arith);
+  moves = written_given 0 most_moves (omega arith);
 }

@@ -1,8 +1,9 @@
 use Rattle.std.proofs.Common.{length, ◌*◌, ◌≡◌}
-use Rattle.std.specs.List.{All, flat_map}
-use Rattle.mb_moves.specs.Reads.{in_front}
-use Rattle.mb_moves.specs.Sheet.{entries_after}
-use Rattle.mb_moves.specs.Text.{tokens}
+use Rattle.std.specs.List.{All}
+use Rattle.mb_moves.proofs.RowsEndToEnd.{end_to_end}
+use Rattle.mb_moves.specs.loops.Reads.{in_front}
+use Rattle.mb_moves.specs.GridText.{entries_after}
+use Rattle.mb_text.specs.Tokens.{tokens}
 use Rattle.mb_moves.proofs.reading.read_rows.Given as goal
 
 abbrev pub invariant-loop-k : goal.invariant-loop-k
@@ -11,6 +12,6 @@ invariant-loop-k l = record {
   count : length l.moves.rows ≡ l.k;
   each : All (λ row. length row ≡ l.sizes.cols) l.moves.rows;
   left : entries_after l.wanted 0 (tokens l.text)
-      ≡ in_front (flat_map (λ row. row) l.moves.rows)
+      ≡ in_front (end_to_end l.moves.rows)
       (entries_after l.wanted (l.k * l.sizes.cols) (tokens l.rest));
 }

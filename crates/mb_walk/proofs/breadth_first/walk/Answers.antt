@@ -1,15 +1,15 @@
-use Rattle.std.proofs.Common.{Global, List, Vec, [], ap, arith, length, subst, sym, ℕ, ◌++◌, ◌∙◌, ◌∷◌, ◌≤◌}
+use Rattle.std.proofs.Common.{Global, List, Ok, Vec, [], ap, arith, length, subst, sym, ℕ, ◌++◌, ◌∙◌, ◌∷◌, ◌≤◌}
 use Rattle.std.proofs.lemmas.List.{map-append}
 use Rattle.std.specs.List.Sorted.{IsPermutation}
-use Rattle.mb_matrix.specs.Matrix.{fibre_of}
+use Rattle.mb_matrix.specs.Matrix.{fiber_of}
 use Rattle.mb_tables.specs.Lists.{In}
-use Rattle.mb_walk.proofs.Expanding.{handed_on}
-use Rattle.mb_walk.proofs.FibreSteps.{fibre-only, fibre-walkable}
-use Rattle.mb_walk.proofs.Walking.{IsWalked, distance-falls, no-length, ring-fibre, ring-known, some-length, walked-end, walked-few, walked-over, walked-start, walked-step, walked-total}
-use Rattle.mb_walk.specs.Faults.{IsWalkFault}
-use Rattle.mb_walk.specs.Found.{Finds, IsNear, IsSearchFault}
-use Rattle.mb_walk.specs.Ring.{reached, tables_of}
-use Rattle.mb_walk.specs.RingList.{listed}
+use Rattle.mb_tables.proofs.HandedOn.{gives-handed_on}
+use Rattle.mb_walk.proofs.FiberSteps.{fiber-only, fiber-walkable}
+use Rattle.mb_walk.proofs.Walking.{IsWalked, distance-falls, no-length, ring-fiber, ring-known, some-length, under-limit, walked-end, walked-few, walked-over, walked-start, walked-step, walked-total}
+use Rattle.mb_walk.specs.loops.Found.{Finds, IsSearchFault}
+use Rattle.mb_walk.specs.Walk.{walk_cause, walk_of, within_limit}
+use Rattle.mb_walk.specs.loops.RingList.{listed}
+use Rattle.mb_tables.specs.Step.{IsNear}
 use Rattle.mb_walk.proofs.breadth_first.walk.Given as given
 use Rattle.mb_walk.proofs.breadth_first.walk.Goals as goal
 
@@ -22,10 +22,10 @@ insert-requires g c = record {
 
 pub loop-alloc-init : goal.loop-alloc-init
 loop-alloc-init g c =
-    subst (λ rings. IsWalked (fibre_of c.args.matrix.now c.args.start.now) c.args.moves.now.rows
+    subst (λ rings. IsWalked (fiber_of c.args.matrix.now c.args.start.now) c.args.moves.now.rows
     c.args.start.now c.args.limit (listed rings) c.push.new.self.items c.insert.new.self)
     (sym c.new-rings.ensures.items)
-    (walked-start (fibre_of c.args.matrix.now c.args.start.now) c.args.moves.now.rows
+    (walked-start (fiber_of c.args.matrix.now c.args.start.now) c.args.moves.now.rows
     c.args.start.now c.args.limit c.push.new.self.items c.insert.new.self
     (c.in_ok-push.ensures.items
     ∙ ap (λ old. old ++ c.in_ok-try_copy-2.field-0 ∷ []) c.new-ring.ensures.items
@@ -39,46 +39,33 @@ next_ring-requires-clause-widths g c u i =
     let matrix = c.args.matrix.now in
     let start = c.args.start.now in
     let walkable =
-    fibre-walkable matrix c.cols.ensures.sound start c.args.moves.now.rows c.requires.moves
+    fiber-walkable matrix c.cols.ensures.sound start c.args.moves.now.rows c.requires.moves
     c.requires.cells c.requires.margins in
     let there =
-    ring-fibre (fibre_of matrix start) c.args.moves.now.rows start c.args.limit
+    ring-fiber (fiber_of matrix start) c.args.moves.now.rows start c.args.limit
     (listed c.loop-alloc.rings.items) c.loop-alloc.ring.items c.loop-alloc.visited
     c.loop-alloc.invariant walkable u (subst (In u) c.as_slice.ensures.value i) in
-    (fibre-only matrix c.cols.ensures.sound start u there).0 ∙ sym c.requires.width
-
-pub next_ring-requires-clause-counts : goal.next_ring-requires-clause-counts
-next_ring-requires-clause-counts g c u i =
-    let matrix = c.args.matrix.now in
-    let start = c.args.start.now in
-    let walkable =
-    fibre-walkable matrix c.cols.ensures.sound start c.args.moves.now.rows c.requires.moves
-    c.requires.cells c.requires.margins in
-    walkable.counts u
-    (ring-fibre (fibre_of matrix start) c.args.moves.now.rows start c.args.limit
-    (listed c.loop-alloc.rings.items) c.loop-alloc.ring.items c.loop-alloc.visited
-    c.loop-alloc.invariant walkable u (subst (In u) c.as_slice.ensures.value i))
+    (fiber-only matrix c.cols.ensures.sound start u there).0 ∙ sym c.requires.width
 
 pub next_ring-requires-clause-known : goal.next_ring-requires-clause-known
 next_ring-requires-clause-known g c =
     subst (λ ring. length ring ≤ length c.loop-alloc.visited) (sym c.as_slice.ensures.value)
-    (ring-known (fibre_of c.args.matrix.now c.args.start.now) c.args.moves.now.rows
+    (ring-known (fiber_of c.args.matrix.now c.args.start.now) c.args.moves.now.rows
     c.args.start.now c.args.limit (listed c.loop-alloc.rings.items) c.loop-alloc.ring.items
     c.loop-alloc.visited c.loop-alloc.invariant)
 
-pub returns-in_err-next-clause-refused : goal.returns-in_err-next-clause-refused
-returns-in_err-next-clause-refused g c =
+pub returns-in_err-next : goal.returns-in_err-next
+returns-in_err-next g c =
     let matrix = c.args.matrix.now in
     let start = c.args.start.now in
     let moves = c.args.moves.now.rows in
     let fault = c.in_err-next.field-0.0 in
-    handed_on c.from_residual-in_err-next.result fault
-    (IsWalkFault c.args.limit (length (reached matrix moves start)))
-    c.from_residual-in_err-next.ensures.1
-    (walked-over (fibre_of matrix start) moves start c.args.limit
+    gives-handed_on walk_cause (λ rings. rings) c.from_residual-in_err-next.result fault
+    (walk_of c.args.limit matrix moves start) c.from_residual-in_err-next.ensures.1
+    (walked-over (fiber_of matrix start) moves start c.args.limit
     (listed c.loop-alloc.rings.items) c.loop-alloc.ring.items c.loop-alloc.visited
     c.loop-alloc.invariant
-    (fibre-walkable matrix c.cols.ensures.sound start moves c.requires.moves
+    (fiber-walkable matrix c.cols.ensures.sound start moves c.requires.moves
     c.requires.cells c.requires.margins)
     (some-length c.loop-alloc.ring.items c.loop-alloc.ring.len c.loop-alloc.ring.ok.0
     c.loop-alloc-test.ensures) fault
@@ -96,7 +83,7 @@ found g c =
 
 pub loop-alloc-smaller : goal.loop-alloc-smaller
 loop-alloc-smaller g c =
-    distance-falls (fibre_of c.args.matrix.now c.args.start.now) c.args.moves.now.rows
+    distance-falls (fiber_of c.args.matrix.now c.args.start.now) c.args.moves.now.rows
     c.args.start.now c.args.limit (listed c.loop-alloc.rings.items) c.loop-alloc.ring.items
     c.loop-alloc.visited c.loop-alloc.invariant c.next_ring.new.visited c.in_ok-next.next.items
     (found g c) (some-length c.loop-alloc.ring.items c.loop-alloc.ring.len c.loop-alloc.ring.ok.0
@@ -108,15 +95,15 @@ loop-alloc-preserved g c =
     let matrix = c.args.matrix.now in
     let start = c.args.start.now in
     let moves = c.args.moves.now.rows in
-    subst (λ rings. IsWalked (fibre_of matrix start) moves start c.args.limit rings
+    subst (λ rings. IsWalked (fiber_of matrix start) moves start c.args.limit rings
     c.in_ok-next.next.items c.next_ring.new.visited)
     (sym (ap listed c.in_ok-push-2.ensures.items
     ∙ map-append (λ (r : Vec (List ℕ) Global). r.items) c.loop-alloc.rings.items
     (c.loop-alloc.ring ∷ [])))
-    (walked-step (fibre_of matrix start) moves start c.args.limit
+    (walked-step (fiber_of matrix start) moves start c.args.limit
     (listed c.loop-alloc.rings.items) c.loop-alloc.ring.items c.loop-alloc.visited
     c.loop-alloc.invariant
-    (fibre-walkable matrix c.cols.ensures.sound start moves c.requires.moves
+    (fiber-walkable matrix c.cols.ensures.sound start moves c.requires.moves
     c.requires.cells c.requires.margins) c.next_ring.new.visited c.in_ok-next.next.items
     (found g c) c.in_ok-next.ensures.ascending
     (some-length c.loop-alloc.ring.items c.loop-alloc.ring.len c.loop-alloc.ring.ok.0
@@ -127,47 +114,35 @@ from_lists-requires g c =
     let empty = no-length c.loop-alloc.ring.items c.loop-alloc.ring.len c.loop-alloc.ring.ok.0
     c.loop-alloc-test.ensures in
     let total =
-    walked-total (fibre_of c.args.matrix.now c.args.start.now) c.args.moves.now.rows
+    walked-total (fiber_of c.args.matrix.now c.args.start.now) c.args.moves.now.rows
     c.args.start.now c.args.limit (listed c.loop-alloc.rings.items) c.loop-alloc.ring.items
     c.loop-alloc.visited c.loop-alloc.invariant empty in
     let few =
-    walked-few (fibre_of c.args.matrix.now c.args.start.now) c.args.moves.now.rows
+    walked-few (fiber_of c.args.matrix.now c.args.start.now) c.args.moves.now.rows
     c.args.start.now c.args.limit (listed c.loop-alloc.rings.items) c.loop-alloc.ring.items
     c.loop-alloc.visited c.loop-alloc.invariant in
     let room = c.loop-alloc.invariant.room in
     let small = c.requires.small in
     record { tables = c.len-2.ensures.tables ∙ total; few = omega arith }
 
-pub returns-clause-rings : goal.returns-clause-rings
-returns-clause-rings g c =
+pub returns : goal.returns
+returns g c =
     let matrix = c.args.matrix.now in
     let start = c.args.start.now in
     let moves = c.args.moves.now.rows in
-    c.from_lists.ensures
-    ∙ sym (walked-end (fibre_of matrix start) moves start c.args.limit
-    (listed c.loop-alloc.rings.items) c.loop-alloc.ring.items c.loop-alloc.visited
-    c.loop-alloc.invariant
-    (fibre-walkable matrix c.cols.ensures.sound start moves c.requires.moves
-    c.requires.cells c.requires.margins)
-    (no-length c.loop-alloc.ring.items c.loop-alloc.ring.len c.loop-alloc.ring.ok.0
-    c.loop-alloc-test.ensures))
-
-pub returns-clause-within : goal.returns-clause-within
-returns-clause-within g c =
-    let matrix = c.args.matrix.now in
-    let start = c.args.start.now in
-    let moves = c.args.moves.now.rows in
-    let empty = no-length c.loop-alloc.ring.items c.loop-alloc.ring.len c.loop-alloc.ring.ok.0
+    let empty =
+    no-length c.loop-alloc.ring.items c.loop-alloc.ring.len c.loop-alloc.ring.ok.0
     c.loop-alloc-test.ensures in
     let same =
-    ap (λ rings. length (tables_of rings))
-    (walked-end (fibre_of matrix start) moves start c.args.limit
-    (listed c.loop-alloc.rings.items) c.loop-alloc.ring.items c.loop-alloc.visited
-    c.loop-alloc.invariant
-    (fibre-walkable matrix c.cols.ensures.sound start moves c.requires.moves
-    c.requires.cells c.requires.margins) empty) in
+    walked-end (fiber_of matrix start) moves start c.args.limit (listed c.loop-alloc.rings.items)
+    c.loop-alloc.ring.items c.loop-alloc.visited c.loop-alloc.invariant
+    (fiber-walkable matrix c.cols.ensures.sound start moves c.requires.moves
+    c.requires.cells c.requires.margins) empty in
     let total =
-    walked-total (fibre_of matrix start) moves start c.args.limit
+    walked-total (fiber_of matrix start) moves start c.args.limit
     (listed c.loop-alloc.rings.items) c.loop-alloc.ring.items c.loop-alloc.visited
     c.loop-alloc.invariant empty in
-    let room = c.loop-alloc.invariant.room in omega arith
+    let room = c.loop-alloc.invariant.room in
+    ap (within_limit c.args.limit) same
+    ∙ under-limit c.args.limit (listed c.loop-alloc.rings.items) (omega arith)
+    ∙ ap Ok (sym c.from_lists.ensures)

@@ -1,9 +1,10 @@
 use Rattle.std.proofs.Common.{List, arith, subst, ℤ, ◌∙◌}
 use Rattle.mb_tables.specs.Step.{Moved, OneApart}
 use Rattle.mb_tables.specs.declared.sign.Sign.TheVariants.{Minus, Plus}
-use Rattle.mb_walk.proofs.Expanding.{handed_on, over-minus, over-plus, searched-all, searching-none, searching-step}
+use Rattle.mb_tables.proofs.HandedOn.{handed_on}
+use Rattle.mb_walk.proofs.Expanding.{over-minus, over-plus, searched-all, searching-none, searching-step}
 use Rattle.mb_walk.proofs.PlacesBelow.{SteppedBelow, below-none, get-there}
-use Rattle.mb_walk.specs.Found.{FindsMore, IsSearchFault}
+use Rattle.mb_walk.specs.loops.Found.{FindsMore, IsSearchFault}
 use Rattle.mb_walk.proofs.expand.expand.Goals as goal
 
 pub loop-z-init : goal.loop-z-init

@@ -3,7 +3,7 @@ use Rattle.std.proofs.lemmas.List.Sorted.{length_permutation}
 use Rattle.std.specs.List.Sorted.{IsPermutation}
 use Rattle.mb_tables.specs.Lists.{In}
 use Rattle.mb_walk.proofs.SearchSteps.{exceeds-one, finds-none, finds-one}
-use Rattle.mb_walk.specs.Found.{FindsMore}
+use Rattle.mb_walk.specs.loops.Found.{FindsMore}
 use Rattle.mb_walk.proofs.expand.keep_new.Goals as goal
 
 pub returns-then-contains-clause-found : goal.returns-then-contains-clause-found

@@ -1,7 +1,7 @@
 use Rattle.std.proofs.Common.{subst, sym, ◌∙◌, ◌≡◌}
+use Rattle.mb_tables.proofs.OneStep.{moved-from_one, moved-length, moved-one}
 use Rattle.mb_tables.specs.Step.{Moved}
 use Rattle.mb_walk.proofs.SearchSteps.{finds-none, finds-same}
-use Rattle.mb_walk.proofs.StepsBack.{moved-back, moved-back_only, moved-length, moved-one}
 use Rattle.mb_walk.proofs.expand.take_step.Goals as goal
 
 pub returns-then-not-apply-clause-found : goal.returns-then-not-apply-clause-found
@@ -9,19 +9,13 @@ returns-then-not-apply-clause-found c =
     finds-none (Moved c.args.sign c.args.table.now c.args.z.now) c.args.visited.now
     c.args.next.now.items (λ v h fits. absurd (c.if-not-apply.ensures.refused v h fits))
 
-pub apply-undone-requires : goal.apply-undone-requires
-apply-undone-requires c =
-    moved-length c.args.sign c.args.table.now c.args.z.now c.apply.new.self
-    c.if-not-apply.ensures.moved ∙ c.requires.width
-
-pub prove-unreachable-requires : goal.prove-unreachable-requires
-prove-unreachable-requires c =
-    c.if-prove.ensures.refused c.args.table.now
-    (subst (λ sign. Moved sign c.apply.new.self c.args.z.now c.args.table.now)
-    (sym c.opposite.ensures)
-    (moved-back c.args.sign c.args.table.now c.args.z.now c.apply.new.self
-    c.if-not-apply.ensures.moved))
-    c.requires.counts
+pub take_back-requires : goal.take_back-requires
+take_back-requires c = record {
+  cells =
+      moved-length c.args.sign c.args.table.now c.args.z.now c.apply.new.self
+      c.if-not-apply.ensures.moved ∙ c.requires.width;
+  made = (c.args.table.now, c.if-not-apply.ensures.sound, c.if-not-apply.ensures.moved);
+}
 
 pub returns-clause-found : goal.returns-clause-found
 returns-clause-found c =
@@ -35,7 +29,5 @@ returns-clause-found c =
 
 pub returns-clause-back : goal.returns-clause-back
 returns-clause-back c =
-    moved-back_only c.args.sign c.args.table.now c.args.z.now c.apply.new.self
-    c.apply-undone.new.self c.if-not-apply.ensures.moved
-    (subst (λ sign. Moved sign c.apply.new.self c.args.z.now c.apply-undone.new.self)
-    c.opposite.ensures c.if-prove.ensures.moved)
+    moved-from_one c.args.sign c.take_back.new.self c.args.table.now c.args.z.now c.apply.new.self
+    c.take_back.ensures c.if-not-apply.ensures.moved

@@ -1,10 +1,12 @@
 use Rattle.std.proofs.Common.{[], arith, subst, sym}
 use Rattle.mb_tables.proofs.ListLaws.{place-in}
+use Rattle.mb_tables.proofs.HandedOn.{handed_on}
 use Rattle.mb_walk.proofs.AscendingTables.{ascends-sorted}
-use Rattle.mb_walk.proofs.Expanding.{handed_on, over-ring, searched-ring, searching-none, searching-ring}
+use Rattle.mb_walk.proofs.Expanding.{over-ring, searched-ring, searching-none, searching-ring}
 use Rattle.mb_walk.proofs.PlacesBelow.{NearBelow, below-none, get-there}
 use Rattle.mb_walk.proofs.SearchSteps.{IsSearching, finds-permuted}
-use Rattle.mb_walk.specs.Found.{Finds, IsNear, IsSearchFault}
+use Rattle.mb_walk.specs.loops.Found.{Finds, IsSearchFault}
+use Rattle.mb_tables.specs.Step.{IsNear}
 use Rattle.mb_walk.proofs.next.next_ring.Given as given
 use Rattle.mb_walk.proofs.next.next_ring.Goals as goal
 
@@ -18,13 +20,6 @@ loop-place-init g c =
 pub expand-requires-clause-width : goal.expand-requires-clause-width
 expand-requires-clause-width g c =
     c.requires.widths c.index-ring-place.result
-    (place-in c.args.ring.now c.loop-place.place c.index-ring-place.result
-    (get-there c.args.ring.now c.loop-place.place c.index-ring-place.result (omega arith)
-    c.index-ring-place.is))
-
-pub expand-requires-clause-counts : goal.expand-requires-clause-counts
-expand-requires-clause-counts g c =
-    c.requires.counts c.index-ring-place.result
     (place-in c.args.ring.now c.loop-place.place c.index-ring-place.result
     (get-there c.args.ring.now c.loop-place.place c.index-ring-place.result (omega arith)
     c.index-ring-place.is))

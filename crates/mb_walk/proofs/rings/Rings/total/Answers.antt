@@ -1,7 +1,7 @@
 use Rattle.std.proofs.Common.{List, length, subst, sum_by, ℕ, ◌∙◌, ◌≡◌}
 use Rattle.std.proofs.lemmas.List.Concat.{length-flat_map}
 use Rattle.mb_walk.specs.Ring.{Ring}
-use Rattle.mb_walk.specs.RingList.{listed}
+use Rattle.mb_walk.specs.loops.RingList.{listed}
 use Rattle.mb_walk.proofs.rings.Rings.total.Goals as goal
 
 pub returns-clause-sizes : goal.returns-clause-sizes

@@ -1,0 +1,85 @@
+-- The laws of completion: from a finished run to the reduced basis.
+use Rattle.std.specs.Prelude.{List, length, ℕ, ◌↔◌, ◌≡◌}
+use Rattle.mb_completion.specs.Run.{AreLightPeaks, Finished, Outcome, RunEnds}
+use Rattle.mb_matrix.specs.Fiber.{AreColumns}
+use Rattle.mb_matrix.specs.Matrix.{Design, IsDesign}
+use Rattle.mb_order.specs.Monomial.{Monomial}
+use Rattle.mb_order.specs.Order.{monomial_cmp}
+use Rattle.mb_order.specs.Peak.{PairsMeet}
+use Rattle.mb_order.specs.Rewriting.{AreValid, Rule}
+use Rattle.mb_order.specs.Weight.{symbols}
+use Rattle.mb_order.specs.declared.order.Order.{Order}
+use Rattle.mb_rules.specs.Classes.{IsLeast, ReachLeast}
+use Rattle.mb_rules.specs.Elimination.{StartsMeet}
+use Rattle.mb_rules.specs.NormalForm.{IsIrreducible}
+use Rattle.mb_rules.specs.ReducedBasis.{IsCorner, IsMinimalLeft, IsReduced, IsReduction, LeftsAscend}
+use Rattle.mb_rules.specs.RuleList.{ValidRules}
+
+-- where pairs and starts meet, each monomial leads to the least of its class, and one that no
+-- rule fits is that (a Gröbner basis)
+abbrev pub Completion : Type 0
+Completion =
+    (order : Order) (d : ℕ) (columns : List (List ℕ)) (rules : List Rule) →
+    AreColumns d columns → AreValid d (symbols d columns) (monomial_cmp order d) rules →
+    PairsMeet rules → StartsMeet d columns rules →
+    ReachLeast d (symbols d columns) (monomial_cmp order d) rules
+    × ((m : Monomial) → length m ≡ length (symbols d columns) → IsIrreducible rules m →
+    IsLeast d (symbols d columns) (monomial_cmp order d) m)
+
+-- of such rules the minimal left sides are the corners
+abbrev pub Corners : Type 0
+Corners =
+    (order : Order) (d : ℕ) (columns : List (List ℕ)) (rules : List Rule) →
+    AreColumns d columns → AreValid d (symbols d columns) (monomial_cmp order d) rules →
+    ReachLeast d (symbols d columns) (monomial_cmp order d) rules →
+    (l : Monomial) →
+    IsCorner d (symbols d columns) (monomial_cmp order d) l ↔ IsMinimalLeft rules l
+
+-- reducing such rules gives the reduced basis
+abbrev pub Reduction : Type 0
+Reduction =
+    (order : Order) (d : ℕ) (columns : List (List ℕ)) (rules kept : List Rule) →
+    AreColumns d columns → AreValid d (symbols d columns) (monomial_cmp order d) rules →
+    ReachLeast d (symbols d columns) (monomial_cmp order d) rules → IsReduction rules kept →
+    IsReduced d (symbols d columns) (monomial_cmp order d) kept
+
+-- the rules of the reduced basis are valid, lead each monomial to the least of its class, and
+-- their pairs and starts meet
+abbrev pub Reduced : Type 0
+Reduced =
+    (order : Order) (d : ℕ) (columns : List (List ℕ)) (rules : List Rule) →
+    AreColumns d columns → IsReduced d (symbols d columns) (monomial_cmp order d) rules →
+    AreValid d (symbols d columns) (monomial_cmp order d) rules
+    × ReachLeast d (symbols d columns) (monomial_cmp order d) rules
+    × PairsMeet rules × StartsMeet d columns rules
+
+-- there is one reduced basis: two lists of it that ascend by left side are equal
+abbrev pub OneReduced : Type 0
+OneReduced =
+    (order : Order) (d : ℕ) (columns : List (List ℕ)) (some others : List Rule) →
+    AreColumns d columns →
+    IsReduced d (symbols d columns) (monomial_cmp order d) some →
+    LeftsAscend (monomial_cmp order d) some →
+    IsReduced d (symbols d columns) (monomial_cmp order d) others →
+    LeftsAscend (monomial_cmp order d) others → some ≡ others
+
+-- the rules of a finished run are valid, and their pairs and starts meet
+abbrev pub FinishedRun : Type 0
+FinishedRun =
+    (matrix : Design) (order : Order) (pairs : ℕ) (final : List Rule) (looks : ℕ) →
+    IsDesign matrix → RunEnds matrix order pairs (Finished final looks) →
+    ValidRules order matrix final × PairsMeet final
+    × StartsMeet matrix.rows matrix.columns final
+
+-- the peaks of a finished run are not too heavy
+abbrev pub LightPeaks : Type 0
+LightPeaks =
+    (matrix : Design) (order : Order) (pairs : ℕ) (final : List Rule) (looks : ℕ) →
+    IsDesign matrix → RunEnds matrix order pairs (Finished final looks) →
+    AreLightPeaks matrix final
+
+-- a run has one end, so each answer comes exactly where the run ends so
+abbrev pub OneOutcome : Type 0
+OneOutcome =
+    (matrix : Design) (order : Order) (pairs : ℕ) (a b : Outcome) → IsDesign matrix →
+    RunEnds matrix order pairs a → RunEnds matrix order pairs b → a ≡ b

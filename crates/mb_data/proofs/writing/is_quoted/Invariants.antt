@@ -1,0 +1,9 @@
+use Rattle.std.proofs.Common.{drop, ◌≡◌}
+use Rattle.std.specs.List.{list_any}
+use Rattle.csv.specs.Writing.{default_writer, needs_byte}
+use Rattle.mb_data.proofs.writing.is_quoted.Given as goal
+
+abbrev pub invariant-loop-b : goal.invariant-loop-b
+invariant-loop-b l =
+    list_any (needs_byte default_writer) l.field
+    ≡ list_any (needs_byte default_writer) (drop l.b-index l.field)

@@ -1,0 +1,12 @@
+pub mod CountField
+pub mod CrossTable
+pub mod Dataset
+pub mod DatasetText
+pub mod Faults
+pub mod HeaderText
+pub mod Laws
+pub mod Levels
+pub mod Records
+pub mod Rows
+pub mod Written
+pub mod loops

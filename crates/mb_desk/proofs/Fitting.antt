@@ -1,0 +1,31 @@
+-- A change that is decided fits the world that it is decided over.
+use Rattle.std.proofs.Common.{Err, Ok, Result, refl, subst, ◌≡◌}
+use Rattle.mb_desk.specs.Changes.{Misses}
+use Rattle.mb_desk.specs.Decision.{Decided, or_refusal}
+use Rattle.mb_desk.specs.World.{World}
+use Rattle.mb_desk.specs.declared.plans.Change.{Change}
+use Rattle.mb_desk.specs.declared.plans.Plan.{Plan}
+use Rattle.mb_desk.specs.declared.refusals.Refusal.{Refusal}
+use Rattle.mb_tables.specs.Answers.{◌>>=◌}
+
+-- the value of a step that went on
+pub bind_ok : {A B F : Type 0} (step : Result A F) (next : A → Result B F) (y : B) →
+    (step >>= next) ≡ Ok y → (x : A) × (step ≡ Ok x) × (next x ≡ Ok y)
+bind_ok (Ok x) next y e = (x, refl, e)
+bind_ok (Err fault) next y e = absurd (cc)
+
+-- the value of a lower call whose fault would be a refusal
+pub or_ok : {A F : Type 0} (refusal : F → Refusal) (says : Result A F) (x : A) →
+    or_refusal refusal says ≡ Ok x → says ≡ Ok x
+or_ok refusal (Ok y) x e = cc
+or_ok refusal (Err fault) x e = absurd (cc)
+
+-- a change misses no row of the world
+abbrev pub Fits : Change → World → Type 0
+Fits change w = Misses change w.rows → ⊥
+
+-- a plan that was decided fits where its change does
+pub answers_fit : (w : World) (decided answer : Plan) → Fits decided.change w →
+    ◌≡◌ {A = Decided Plan} (Ok decided) (Ok answer) → Fits answer.change w
+answers_fit w decided answer fit e =
+    let same : decided ≡ answer = cc in subst (λ (p : Plan). Fits p.change w) same fit

@@ -1,0 +1,21 @@
+-- Facts of what is told.
+use Rattle.std.proofs.Common.{None, Option, Some, subst, ◌≡◌}
+use Rattle.mb_outside.specs.Told.{WhereTold}
+
+-- a fact of what is told that follows from another
+pub weakened : {A : Type 0} (First Second : A → A → Type 0) (before after : Option A) →
+    ((b a : A) → First b a → Second b a) → WhereTold before after First →
+    WhereTold before after Second
+weakened First Second before None so fact = tt
+weakened First Second None (Some after) so fact = absurd fact
+weakened First Second (Some before) (Some after) so fact = so before after fact
+
+-- a fact of a call after one that changed nothing
+pub after_same : {A : Type 0} (Fact : A → A → Type 0) (before between after : Option A) →
+    WhereTold before between (λ b a. a ≡ b) → WhereTold between after Fact →
+    WhereTold before after Fact
+after_same Fact before between None same fact = tt
+after_same Fact before None (Some after) same fact = absurd fact
+after_same Fact None (Some between) (Some after) same fact = absurd same
+after_same Fact (Some before) (Some between) (Some after) same fact =
+    subst (λ b. Fact b after) same fact

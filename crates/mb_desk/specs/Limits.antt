@@ -1,0 +1,15 @@
+-- The limits of the desk, each a number.
+use Rattle.std.specs.Prelude.{ℕ, ◌≤◌}
+
+-- the greatest limit of `reach`, which is also the one where none is given
+abbrev pub largest_limit : ℕ
+largest_limit = 100000
+
+-- the most bytes that a word may have
+abbrev pub longest_word : ℕ
+longest_word = 4096
+
+-- a limit of `reach`
+pub record IsLimit (tables : ℕ) : Type 0 where
+  pub some : 1 ≤ tables
+  pub small : tables ≤ largest_limit

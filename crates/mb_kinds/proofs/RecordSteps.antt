@@ -1,0 +1,74 @@
+-- The steps of reading a record, one after the other.
+use Rattle.std.proofs.Common.{Err, List, Ok, Result, ap, refl, ℕ, ℤ, ◌+◌, ◌-◌, ◌∙◌, ◌≡◌}
+use Rattle.mb_kinds.specs.Model.{ModelValue}
+use Rattle.mb_kinds.specs.Record.{ModelRecord}
+use Rattle.mb_kinds.specs.RecordText.{base_in, dataset_in, ends, exactly, measure_in, model_in, or_line, says, sizes_in}
+use Rattle.std.specs.Prelude.{codes, length}
+use Rattle.mb_matrix.specs.Faults.{matrix_of}
+use Rattle.mb_matrix.specs.Matrix.{Design}
+use Rattle.mb_matrix.specs.Measure.{Scheme, Weighting, measure_of}
+use Rattle.mb_tables.specs.Answers.{◌>>=◌}
+use Rattle.mb_tables.specs.Rows.{array_of}
+
+-- a step that goes on, and what comes then
+pub step_on : {A B : Type 0} (step : Result A ℕ) (x : A) (next : A → Result B ℕ) (z : Result B ℕ) →
+    step ≡ Ok x → next x ≡ z → (step >>= next) ≡ z
+step_on step x next z e f = ap (λ (r : Result _ ℕ). r >>= next) e ∙ f
+
+-- where all goes on, a step did, and what comes then does
+pub stepped : {A B : Type 0} (step : Result A ℕ) (next : A → Result B ℕ) (z : B) →
+    (step >>= next) ≡ Ok z → (x : A) × (step ≡ Ok x) × (next x ≡ Ok z)
+stepped (Ok x) next z e = (x, refl, e)
+stepped (Err number) next z e = absurd cc
+
+-- what is refused at a line goes on only where it is accepted
+pub accepted_at : {A F : Type 0} (number : ℕ) (r : Result A F) (x : A) → or_line number r ≡ Ok x →
+    r ≡ Ok x
+accepted_at number (Ok y) x e = ap Ok cc
+accepted_at number (Err fault) x e = absurd cc
+
+-- after the name and the sizes
+abbrev pub with_sizes : List ℕ → (ℕ × ℕ) × List (List ℕ) → Result ModelRecord ℕ
+with_sizes dataset sizes =
+    model_in 4 sizes.0 sizes.1 >>= λ model. Ok (record { dataset = dataset; model = model })
+
+-- after the name
+abbrev pub with_dataset : List ℕ × List (List ℕ) → Result ModelRecord ℕ
+with_dataset dataset = says 3 sizes_in dataset.1 >>= λ sizes. with_sizes dataset.0 sizes
+
+-- after the first line
+abbrev pub with_version : Unit {0} × List (List ℕ) → Result ModelRecord ℕ
+with_version version = says 2 dataset_in version.1 >>= λ dataset. with_dataset dataset
+
+-- after the matrix
+abbrev pub with_matrix : ℕ → ℕ × ℕ → List (List ℕ) → Design → Result ModelValue ℕ
+with_matrix number sizes pieces matrix =
+    measure_in (number + sizes.0) matrix pieces >>= λ measure.
+    Ok (record { matrix = matrix; measure = measure })
+
+-- after the rows
+abbrev pub with_rows : ℕ → ℕ × ℕ → List ℤ × List (List ℕ) → Result ModelValue ℕ
+with_rows number sizes rows =
+    or_line (number + sizes.0 - 1) (matrix_of (array_of sizes.1 sizes.0 rows.0)) >>= λ matrix.
+    with_matrix number sizes rows.1 matrix
+
+-- after the last line
+abbrev pub with_last : ℕ → Weighting → Unit {0} × List (List ℕ) → Result Weighting ℕ
+with_last number measure last = ends (number + 3) last.1 >>= λ nothing. Ok measure
+
+-- after the measure
+abbrev pub with_measure : ℕ → List (List ℕ) → Weighting → Result Weighting ℕ
+with_measure number pieces measure =
+    says (number + 2) (exactly (codes "end")) pieces >>= λ last. with_last number measure last
+
+-- after the base
+abbrev pub with_base : ℕ → Design → Scheme → List ℕ × List (List ℕ) → Result Weighting ℕ
+with_base number matrix scale base =
+    or_line (number + 1) (measure_of matrix scale base.0) >>= λ measure.
+    with_measure number base.1 measure
+
+-- after the scale
+abbrev pub with_scale : ℕ → Design → Scheme × List (List ℕ) → Result Weighting ℕ
+with_scale number matrix scale =
+    says (number + 1) (base_in (length matrix.columns)) scale.1 >>= λ base.
+    with_base number matrix scale.0 base

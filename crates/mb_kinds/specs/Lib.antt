@@ -1,0 +1,10 @@
+pub mod Generators
+pub mod KindLaws
+pub mod Kinds
+pub mod Laws
+pub mod Model
+pub mod ModelText
+pub mod Name
+pub mod Record
+pub mod RecordText
+pub mod loops

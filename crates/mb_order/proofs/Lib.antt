@@ -1,0 +1,10 @@
+pub mod CellWeights
+pub mod ExponentLaws
+pub mod LowestSymbol
+pub mod MarginFreeLaws
+pub mod OrderLaws
+pub mod PeakLaws
+pub mod StepLaws
+pub mod SymbolSets
+pub mod VisitedSymbols
+pub mod WeightLaws

@@ -1,0 +1,9 @@
+pub mod Laws
+pub mod Limits
+pub mod MarginFree
+pub mod Monomial
+pub mod Order
+pub mod Peak
+pub mod Rewriting
+pub mod Symbols
+pub mod Weight

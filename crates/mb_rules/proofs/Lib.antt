@@ -1,0 +1,9 @@
+pub mod ByMoves
+pub mod ClassesOfWeight
+pub mod Confluence
+pub mod LeastOfClass
+pub mod LocalConfluence
+pub mod NormalForms
+pub mod PushedRules
+pub mod RulesInCode
+pub mod WithoutMargins

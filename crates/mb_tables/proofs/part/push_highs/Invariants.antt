@@ -1,0 +1,8 @@
+use Rattle.std.proofs.Common.{drop, ◌++◌, ◌≡◌}
+use Rattle.mb_tables.specs.loops.Parts.{is_high, picked}
+use Rattle.mb_tables.proofs.part.push_highs.Given as goal
+
+abbrev pub invariant-loop-cell : goal.invariant-loop-cell
+invariant-loop-cell l =
+    l.parts.items ++ picked is_high l.cell (drop l.cell l.entries)
+    ≡ l.initial.parts.items ++ picked is_high 0 l.entries

@@ -1,0 +1,11 @@
+pub mod TokenSteps
+pub mod NumberSteps
+pub mod PieceSteps
+pub mod JoinSteps
+pub mod DigitSteps
+pub mod SignSteps
+pub mod EachSteps
+pub mod DecimalForms
+pub mod PieceLaws
+pub mod SpellingLaws
+pub mod LineTokens

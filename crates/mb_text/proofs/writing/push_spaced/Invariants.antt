@@ -1,0 +1,8 @@
+use Rattle.std.proofs.Common.{take, ◌++◌, ◌≡◌, ◌∷◌}
+use Rattle.std.specs.List.{flat_map}
+use Rattle.mb_text.proofs.writing.push_spaced.Given as goal
+
+abbrev pub invariant-loop-number : goal.invariant-loop-number
+invariant-loop-number g l =
+    l.out.items
+    ≡ l.initial.out.items ++ flat_map (λ n. 32 ∷ g.I.Integer.text n) (take l.number-index l.numbers)

@@ -1,0 +1,98 @@
+//! Numbers that have exactly one spelling, alone and in lines.
+
+ghost use Rattle.std.specs.Prelude.{◌≡◌, ◌<◌, ◌≤◌, ◌^◌, ◌*◌, ◌+◌, SomeIff, pos};
+ghost use Rattle.std.specs.Option.{option_and_then, option_map};
+ghost use Rattle.mb_text.specs.Numerals.{natural_of};
+ghost use Rattle.mb_text.specs.Plain.{at_most, below_zero, is_plain, plain_of, plain_signed_of, size_at_most};
+
+use crate::numerals::is_digit;
+
+/// Whether there is a byte and no needless 0 in front.
+fn is_plain_item(item: &[u8]) -> bool
+    ensures { result ≡ is_plain item.now }
+{
+    match item {
+        [] => false,
+        [_] => true,
+        [first, _, ..] => *first != b'0',
+    }
+}
+
+/// A number with one more digit, where it is at most `highest`.
+fn with_digit(n: u128, digit: u8, highest: u128) -> Option<u128>
+    ensures { SomeIff result (n * 10 + digit ≤ highest) (n * 10 + digit) }
+{
+    let longer = n.checked_mul(10)?.checked_add(u128::from(digit))?;
+    if longer <= highest {
+        Some(longer)
+    } else {
+        None
+    }
+}
+
+/// The number that one or more decimal digits write, where it is at most `highest`.
+fn natural_within(digits: &[u8], highest: u128) -> Option<u128>
+    ensures { result ≡ at_most highest (natural_of digits.now) }
+{
+    if digits.is_empty() {
+        return None;
+    }
+    let mut n: u128 = 0;
+    for b in digits {
+        if !is_digit(*b) {
+            return None;
+        }
+        match with_digit(n, *b - 48, highest) {
+            None => return None,
+            Some(longer) => n = longer,
+        }
+    }
+    Some(n)
+}
+
+/// The number that an item is: decimal without leading zeros, and at most `highest`. None for
+/// every other item.
+#[tactic(auto, unfolding(crate::specs::Plain::plain_of))]
+pub fn plain_number(item: &[u8], highest: u128) -> Option<u128>
+    ensures { result ≡ at_most highest (plain_of item.now) }
+{
+    if !is_plain_item(item) {
+        return None;
+    }
+    natural_within(item, highest)
+}
+
+/// The number that an item is, up to `highest`, as one with a sign.
+fn plain_above(item: &[u8], highest: u64) -> Option<i64>
+    requires { highest < 2 ^ 63 }
+    ensures { result ≡ option_map pos (at_most highest (plain_of item.now)) }
+{
+    match plain_number(item, u128::from(highest)) {
+        None => None,
+        Some(n) => Some(n as i64),
+    }
+}
+
+/// The negative of the number that an item is, from 1 up to `highest`.
+fn plain_below(item: &[u8], highest: u64) -> Option<i64>
+    requires { highest < 2 ^ 63 }
+    ensures { result ≡ option_and_then below_zero (at_most highest (plain_of item.now)) }
+{
+    match plain_number(item, u128::from(highest)) {
+        Some(n) if n > 0 => Some(-(n as i64)),
+        _ => None,
+    }
+}
+
+/// The number with a sign that an item is: decimal without leading zeros, after `-` where it is
+/// below 0, and of a size of at most `highest`. None for every other item.
+pub fn plain_signed(item: &[u8], highest: u64) -> Option<i64>
+    requires { highest < 2 ^ 63 }
+    ensures { result ≡ size_at_most highest (plain_signed_of item.now) }
+{
+    if item.is_empty() || item[0] != b'-' {
+        return plain_above(item, highest);
+    }
+    let (_, digits) = item.split_at(1);
+    plain_below(digits, highest)
+}
