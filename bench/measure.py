@@ -16,22 +16,35 @@ def compiled(name):
     program = os.path.join(FOLDER, name)
     if not os.path.exists(program):
         source = os.path.join(PLAIN, name + ".rs")
-        subprocess.run(["rustc", "-O", "-o", program, source], check=True)
+        subprocess.run(["rustc", "-O", "--edition", "2021", "-o", program, source], check=True)
     return program
 
 
+def lines_below(crates):
+    """The lines of crates.txt for these crates and for those that they stand on, lowest first."""
+    wanted, kept = set(crates), []
+    with open(os.path.join(ROOT, "crates.txt")) as lines:
+        for line in reversed(lines.read().split("\n")):
+            name, _, lower = line.partition(":")
+            if name in wanted:
+                wanted.update(lower.split())
+                kept.insert(0, line)
+    return kept
+
+
 def built(folder, name, crates, words):
-    """Our program of bench/ours/NAME.txt, built in a folder over a copy of the crates and run once with words."""
-    for crate in crates:
+    """Our program of bench/ours/NAME.txt, which uses these crates and those below, built in a folder over a copy of
+    them and run once with words."""
+    lines = lines_below(crates)
+    copied = [line.split(":")[0] for line in lines]
+    for crate in copied:
         shutil.copytree(
             os.path.join(ROOT, "crates", crate), os.path.join(folder, "crates", crate),
             ignore=shutil.ignore_patterns("must-fail", "README.md"),
         )
     program = f"{name}_bench"
-    lines = open(os.path.join(ROOT, "crates.txt")).read().split("\n")
-    kept = [line for line in lines if line.split(":")[0] in crates]
     with open(os.path.join(folder, "crates.txt"), "w") as out:
-        out.write("\n".join(kept + [f"{program}: " + " ".join(sorted(crates + ["itoa"]))]) + "\n")
+        out.write("\n".join(lines + [f"{program}: " + " ".join(sorted(copied + ["itoa"]))]) + "\n")
     shutil.copy(os.path.join(ROOT, "HANDLES"), folder)
     source = os.path.join(folder, "crates", program, "src")
     os.makedirs(source)

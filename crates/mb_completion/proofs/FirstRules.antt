@@ -1,5 +1,5 @@
 -- The rules that a run begins with, as the code makes them.
-use Rattle.std.proofs.Common.{List, Some, [], ap, append-nil, append_assoc, arith, drop, get_or, inl, inr, length, refl, slice_get, slice_set, subst, suc, sym, zero, ℕ, ◌++◌, ◌+◌, ◌<◌, ◌∙◌, ◌∷◌, ◌≡◌, ◌≤◌, ◌⊎◌}
+use Rattle.std.proofs.Common.{List, Some, [], ap, append-nil, append_assoc, arith, drop, get_or, inl, inr, length, refl, slice_get, subst, suc, sym, zero, ℕ, ◌++◌, ◌+◌, ◌<◌, ◌∙◌, ◌∷◌, ◌≡◌, ◌≤◌, ◌⊎◌}
 use Rattle.std.proofs.lemmas.List.{get_or_past}
 use Rattle.std.proofs.lemmas.Option.{get_or_from_slice_get, slice_get-get_or, slice_get_within}
 use Rattle.mb_completion.proofs.Births.{birth-valid, births-place}
@@ -14,19 +14,8 @@ use Rattle.mb_order.specs.Rewriting.{IsValid, Rule}
 use Rattle.mb_order.specs.Weight.{IsLight, symbols_of, weights}
 use Rattle.mb_order.specs.declared.order.Order.{Order}
 use Rattle.mb_rules.specs.RuleList.{cmp_of}
-use Rattle.mb_tables.proofs.VectorLaws.{at-zeros, length-zeros, plus-comm, plus-zeros, same}
-use Rattle.mb_tables.specs.Vectors.{at, plus, unit, zeros}
-
--- a list of zeros is so many zeros
-pub are_zeros : (u : List ℕ) (n : ℕ) → length u ≡ n → ((i : ℕ) → at u i ≡ 0) → u ≡ zeros n
-are_zeros u n e h = same u (zeros n) (e ∙ sym (length-zeros n)) (λ i. h i ∙ sym (at-zeros n i))
-
--- 1 put at a place of zeros is a unit
-pub set-zeros : (n k : ℕ) → k < n → slice_set (zeros n) k 1 ≡ unit n k
-unfolding zeros unit
-set-zeros zero k h = absurd (omega arith)
-set-zeros (suc n) zero h = refl
-set-zeros (suc n) (suc k) h = ap (λ u. 0 ∷ u) (set-zeros n k (omega arith))
+use Rattle.mb_tables.proofs.VectorLaws.{plus-comm, plus-zeros}
+use Rattle.mb_tables.specs.Vectors.{at, plus, zeros}
 
 -- no columns, no rules
 births-none : (d n i : ℕ) → births_from d n i [] ≡ []
@@ -123,3 +112,16 @@ pub births-light : (matrix : Design) → IsDesign matrix →
 births-light matrix are k rule e =
     let r = births-place matrix.rows (length matrix.columns) 0 matrix.columns k rule e in
     subst (λ (x : Rule). IsLight matrix x.0) r.2 (birth-light matrix k r.0 are r.1)
+
+-- nor is either side of one of them
+pub first_rule_light : (matrix : Design) (order : Order) (j : ℕ) (rule : Rule) → IsDesign matrix →
+    j < length matrix.columns →
+    rule ≡ birth_of matrix.rows (length matrix.columns) j (get_or matrix.columns j []) →
+    IsLight matrix rule.0 × IsLight matrix rule.1
+first_rule_light matrix order j rule are h e =
+    let column = get_or matrix.columns j [] in
+    let left : IsLight matrix rule.0 =
+    subst (λ (r : Rule). IsLight matrix r.0) (sym e)
+    (birth-light matrix j column are (slice_get-get_or matrix.columns j [] h)) in
+    let weight = (first_rule_valid matrix order j rule are h e).equal_weight in
+    (left, λ i. let f = ap (λ u. at u i) weight in let l = left i in omega arith)

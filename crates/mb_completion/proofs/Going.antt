@@ -1,8 +1,8 @@
 -- How a run goes on, and how it ends.
-use Rattle.std.proofs.Common.{List, None, Some, [], ap, append-nil, arith, cond, false, inl, inr, length, length-append, refl, slice_get, subst, suc, sym, true, zero, ℕ, ◌++◌, ◌+◌, ◌-◌, ◌<◌, ◌∙◌, ◌∷◌, ◌≡◌, ◌≤◌}
+use Rattle.std.proofs.Common.{List, None, Some, [], ap, arith, false, inl, inr, length, length-append, refl, slice_get, subst, suc, sym, true, zero, ℕ, ◌++◌, ◌+◌, ◌-◌, ◌<◌, ◌∙◌, ◌∷◌, ◌≡◌, ◌≤◌}
 use Rattle.std.specs.declared.cmp.Ordering.{Ordering}
 use Rattle.mb_completion.proofs.LookSteps.{sides-get}
-use Rattle.mb_completion.proofs.Turns.{before-grown, before-more, share, with}
+use Rattle.mb_completion.proofs.Turns.{before-grown, before-joined, before-passed, share, with}
 use Rattle.mb_completion.specs.Faults.{Stops}
 use Rattle.mb_completion.specs.Run.{Adds, Finished, IsLook, Outcome, Runs, TooHeavy, Unfinished}
 use Rattle.mb_completion.specs.declared.fault.CompleteFault.TheVariants as fault
@@ -130,10 +130,7 @@ module _ (matrix : Design) (order : Order) where
 -- the place in the row after a pair that shares no symbol, and after one that shares some
 pub passes : (rules : List Rule) (i j : ℕ) → share rules (i, j) ≡ false →
     length (pairs_before rules (i + 1) j) ≡ length (pairs_before rules i j)
-passes rules i j e =
-    ap length (before-more rules i j
-    ∙ ap (λ t. pairs_before rules i j ++ cond t (with j i ∷ []) []) e
-    ∙ append-nil (pairs_before rules i j))
+passes rules i j e = ap length (before-passed rules i j e)
 
 -- a pair that shares a symbol counts in its row
 pub counts : (rules now more : List Rule) (i j : ℕ) → i < j → j < length rules →
@@ -141,6 +138,5 @@ pub counts : (rules now more : List Rule) (i j : ℕ) → i < j → j < length r
     length (pairs_before now (i + 1) j) ≡ length (pairs_before rules i j) + 1
 counts rules now more i j h l e f =
     ap (λ r. length (pairs_before r (i + 1) j)) f
-    ∙ ap length (before-grown rules more (i + 1) j (omega arith) l
-    ∙ before-more rules i j ∙ ap (λ t. pairs_before rules i j ++ cond t (with j i ∷ []) []) e)
+    ∙ ap length (before-grown rules more (i + 1) j (omega arith) l ∙ before-joined rules i j e)
     ∙ length-append (pairs_before rules i j) (with j i ∷ [])

@@ -1,6 +1,8 @@
 pub mod Births
 pub mod FinishedRuns
 pub mod FirstRules
+pub mod FreeMoves
+pub mod FreeRules
 pub mod FromClasses
 pub mod Going
 pub mod GrowingRules
@@ -9,7 +11,12 @@ pub mod KeptPlaces
 pub mod KeptRules
 pub mod LookSteps
 pub mod Looks
+pub mod MadeJoins
+pub mod MadeMoves
+pub mod MadeParts
+pub mod MadePaths
 pub mod MinimalLefts
+pub mod NormalEnds
 pub mod PeaksOfRun
 pub mod Putting
 pub mod Reducing
@@ -19,3 +26,4 @@ pub mod SameOutcomes
 pub mod SampleBasis
 pub mod SampleLook
 pub mod Turns
+pub mod ValidMade

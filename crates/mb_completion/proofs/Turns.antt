@@ -1,5 +1,5 @@
 -- The pairs that share a symbol, turn by turn.
-use Rattle.std.proofs.Common.{Bool, List, None, Some, [], ap, append-nil, append_assoc, arith, cond, inl, inr, length, map, refl, slice_get, suc, sym, true, zero, ℕ, ◌++◌, ◌+◌, ◌<◌, ◌∙◌, ◌∷◌, ◌≡◌, ◌≤◌, ◌⊎◌}
+use Rattle.std.proofs.Common.{Bool, List, None, Some, [], ap, append-nil, append_assoc, arith, cond, false, inl, inr, length, map, refl, slice_get, suc, sym, true, zero, ℕ, ◌++◌, ◌+◌, ◌<◌, ◌∙◌, ◌∷◌, ◌≡◌, ◌≤◌, ◌⊎◌}
 use Rattle.std.proofs.lemmas.List.FromFn.{filter_of_map_range_with_len_more}
 use Rattle.std.proofs.lemmas.Option.{slice_get_past}
 use Rattle.std.specs.List.{filter, range_with_len}
@@ -31,6 +31,20 @@ before-more rules i j =
     (cond (share rules (i, j)) (with j i ∷ []) []))
     ∙ ap (λ l. l ++ cond (share rules (i, j)) (with j i ∷ []) [])
     (sym (filter-append (share rules) (pairs_below j) row))
+
+-- it does where it shares a symbol, and else it is passed
+pub before-passed : (rules : List Rule) (i j : ℕ) → share rules (i, j) ≡ false →
+    pairs_before rules (i + 1) j ≡ pairs_before rules i j
+before-passed rules i j e =
+    before-more rules i j
+    ∙ ap (λ t. pairs_before rules i j ++ cond t (with j i ∷ []) []) e
+    ∙ append-nil (pairs_before rules i j)
+
+pub before-joined : (rules : List Rule) (i j : ℕ) → share rules (i, j) ≡ true →
+    pairs_before rules (i + 1) j ≡ pairs_before rules i j ++ (with j i ∷ [])
+before-joined rules i j e =
+    before-more rules i j
+    ∙ ap (λ t. pairs_before rules i j ++ cond t (with j i ∷ []) []) e
 
 -- a row's end is the next row's beginning
 pub before-row : (rules : List Rule) (j : ℕ) → pairs_before rules j j ≡ pairs_before rules 0 (j + 1)
@@ -140,11 +154,13 @@ before-grown rules more i j h l =
     ap (λ x. shares x (left_of (rules ++ more) p.1)) (left-front rules more p.0 places.0)
     ∙ ap (shares (left_of rules p.0)) (left-front rules more p.1 places.1))
 
+-- all pairs come before the row past the last rule
+pub before-all : (rules : List Rule) → pairs_before rules 0 (length rules) ≡ shared_pairs rules
+before-all rules = ap (filter (share rules)) (append-nil (pairs_below (length rules)))
+
 -- past the last row no pair is left
 pub no_turn : (rules : List Rule) →
     slice_get (shared_pairs rules) (length (pairs_before rules 0 (length rules))) ≡ None
 no_turn rules =
-    let e : pairs_before rules 0 (length rules) ≡ shared_pairs rules =
-    ap (filter (share rules)) (append-nil (pairs_below (length rules))) in
     slice_get_past (shared_pairs rules) (length (pairs_before rules 0 (length rules))) (let f =
-    ap length e in omega arith)
+    ap length (before-all rules) in omega arith)

@@ -1,7 +1,11 @@
 -- The laws of completion: from a finished run to the reduced basis.
 use Rattle.std.specs.Prelude.{List, length, ℕ, ◌↔◌, ◌≡◌}
+use Rattle.mb_certificate.specs.Certificate.{Certificate}
+use Rattle.mb_certificate.specs.Valid.{IsValid}
+use Rattle.mb_completion.specs.Basis.{IsReducedBasis}
+use Rattle.mb_completion.specs.Made.{AreNormalJoins, AreNormalStarts, moves_of, paths_of}
 use Rattle.mb_completion.specs.Run.{AreLightPeaks, Finished, Outcome, RunEnds}
-use Rattle.mb_matrix.specs.Fiber.{AreColumns}
+use Rattle.mb_matrix.specs.Fiber.{AreColumns, margins}
 use Rattle.mb_matrix.specs.Matrix.{Design, IsDesign}
 use Rattle.mb_order.specs.Monomial.{Monomial}
 use Rattle.mb_order.specs.Order.{monomial_cmp}
@@ -11,7 +15,7 @@ use Rattle.mb_order.specs.Weight.{symbols}
 use Rattle.mb_order.specs.declared.order.Order.{Order}
 use Rattle.mb_rules.specs.Classes.{IsLeast, ReachLeast}
 use Rattle.mb_rules.specs.Elimination.{StartsMeet}
-use Rattle.mb_rules.specs.NormalForm.{IsIrreducible}
+use Rattle.mb_rules.specs.NormalForm.{IsIrreducible, NormalBy}
 use Rattle.mb_rules.specs.ReducedBasis.{IsCorner, IsMinimalLeft, IsReduced, IsReduction, LeftsAscend}
 use Rattle.mb_rules.specs.RuleList.{ValidRules}
 
@@ -53,6 +57,16 @@ Reduced =
     × ReachLeast d (symbols d columns) (monomial_cmp order d) rules
     × PairsMeet rules × StartsMeet d columns rules
 
+-- by the reduced basis, monomials of equal weight have one normal form
+abbrev pub OneForm : Type 0
+OneForm =
+    (order : Order) (d : ℕ) (columns : List (List ℕ)) (rules : List Rule) →
+    AreColumns d columns → IsReduced d (symbols d columns) (monomial_cmp order d) rules →
+    (a b p q : Monomial) (s t : List ℕ) → length a ≡ length (symbols d columns) →
+    length b ≡ length (symbols d columns) →
+    margins d (symbols d columns) a ≡ margins d (symbols d columns) b →
+    NormalBy rules s a p → NormalBy rules t b q → p ≡ q
+
 -- there is one reduced basis: two lists of it that ascend by left side are equal
 abbrev pub OneReduced : Type 0
 OneReduced =
@@ -83,3 +97,16 @@ abbrev pub OneOutcome : Type 0
 OneOutcome =
     (matrix : Design) (order : Order) (pairs : ℕ) (a b : Outcome) → IsDesign matrix →
     RunEnds matrix order pairs a → RunEnds matrix order pairs b → a ≡ b
+
+-- the parts of a certificate are those that are made of its rules
+pub record IsMade (c : Certificate) : Type 0 where
+  pub moves : c.moves ≡ moves_of c.matrix.rows c.rules
+  pub starts : AreNormalStarts c.matrix c.rules c.starts
+  pub joins : AreNormalJoins c.rules c.joins
+  pub paths : c.paths ≡ paths_of c.matrix.rows c.rules
+
+-- such a certificate is valid where its rules are the reduced basis and no peak is too heavy
+abbrev pub MadeIsValid : Type 0
+MadeIsValid =
+    (c : Certificate) → IsDesign c.matrix → IsReducedBasis c.matrix c.order c.rules →
+    AreLightPeaks c.matrix c.rules → IsMade c → IsValid c

@@ -2,6 +2,7 @@ pub mod Basis
 pub mod Faults
 pub mod Laws
 pub mod Limits
+pub mod Made
 pub mod Run
 pub mod SampleRun
 pub mod Start

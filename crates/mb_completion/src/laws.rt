@@ -5,6 +5,8 @@ ghost use Rattle.mb_completion.specs.Laws.{
   Corners,
   FinishedRun,
   LightPeaks,
+  MadeIsValid,
+  OneForm,
   OneOutcome,
   OneReduced,
   Reduced,
@@ -33,6 +35,11 @@ pub fn reduced()
     ensures { Reduced }
 {}
 
+/// Law: by the reduced basis, monomials of equal weight have one normal form.
+pub fn one_form()
+    ensures { OneForm }
+{}
+
 /// Law: there is one list of the reduced basis that ascends by left side.
 pub fn one_reduced()
     ensures { OneReduced }
@@ -51,6 +58,11 @@ pub fn light_peaks()
 /// Law: a run has one end.
 pub fn one_outcome()
     ensures { OneOutcome }
+{}
+
+/// Law: a certificate that is made of the reduced basis is valid.
+pub fn made_is_valid()
+    ensures { MadeIsValid }
 {}
 
 /// Law: a worked run of one look.

@@ -26,7 +26,7 @@ use std::alloc::Global;
 use std::cmp::Ordering;
 
 /// The least common multiple of the left sides of two rules.
-fn peak(alloc: Global, rules: &Rules, i: u32, j: u32) -> Result<Monomial, OutOfMemory>
+pub fn peak(alloc: Global, rules: &Rules, i: u32, j: u32) -> Result<Monomial, OutOfMemory>
     requires first { i < length rules.now.rules }
     requires second { j < length rules.now.rules }
     ensures peak { IfOk result
@@ -39,7 +39,7 @@ fn peak(alloc: Global, rules: &Rules, i: u32, j: u32) -> Result<Monomial, OutOfM
 }
 
 /// Rewrites a monomial by a rule whose left side divides it.
-fn rewrite(rules: &Rules, k: u32, m: &mut Monomial)
+pub fn rewrite(rules: &Rules, k: u32, m: &mut Monomial)
     requires rule { k < length rules.now.rules }
     requires shape { Suits rules.now.matrix m.old }
     requires light { IsLight rules.now.matrix m.old.list }
@@ -138,7 +138,7 @@ fn look(alloc: Global, rules: &mut Rules, i: u32, j: u32) -> Result<(), Complete
 }
 
 /// Whether the left sides of two rules share a symbol.
-fn is_shared(rules: &Rules, i: u32, j: u32) -> bool
+pub fn is_shared(rules: &Rules, i: u32, j: u32) -> bool
     requires first { i < length rules.now.rules }
     requires second { j < length rules.now.rules }
     ensures { result ≡ shares (left_of rules.now.rules i) (left_of rules.now.rules j) }

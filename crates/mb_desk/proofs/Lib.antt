@@ -1,3 +1,4 @@
+pub mod CheckInversions
 pub mod Counts
 pub mod EachCommand
 pub mod Fitting

@@ -1,5 +1,6 @@
 -- What each command decides, and what it needs.
 use Rattle.std.specs.Prelude.{Option, ℕ}
+use Rattle.mb_desk.specs.CheckCommand.{check_plan}
 use Rattle.mb_desk.specs.Decision.{Decided, Scene}
 use Rattle.mb_desk.specs.MovesCommand.{moves_plan}
 use Rattle.mb_desk.specs.Needs.{FilesAlone, Needs, needed_files, needed_rows}
@@ -15,11 +16,13 @@ use Rattle.mb_outside.specs.Rows.{Rows}
 abbrev pub plan_of : Request → World → Decided Plan
 plan_of (requests.Moves words) w = moves_plan words w.files
 plan_of (requests.Reach words) w = reach_plan words w.files
+plan_of (requests.Check certificate) w = check_plan certificate w.files
 
 -- what each request needs
 abbrev pub needs_of : Request → Needs
 needs_of (requests.Moves words) = FilesAlone
 needs_of (requests.Reach words) = FilesAlone
+needs_of (requests.Check certificate) = FilesAlone
 
 -- what is seen for a request, from its parts
 abbrev pub scene_for : Request → Option Held → ℕ → Option Rows → ℕ → Scene

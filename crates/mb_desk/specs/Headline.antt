@@ -1,6 +1,10 @@
 -- What an answer of the desk means, in the words of the field.
 use Rattle.std.specs.FinMap.{get}
 use Rattle.std.specs.Prelude.{All, List, Ok, Some, [], length, map, pos, slice_get, sum, ℕ, ℤ, ◌↔◌, ◌∷◌, ◌≡◌, ◌≤◌}
+use Rattle.mb_certificate.specs.Certificate.{AreParts, Certificate}
+use Rattle.mb_certificate.specs.Valid.{IsValid}
+use Rattle.mb_certificate.specs.Written.{text_of}
+use Rattle.mb_desk.specs.CheckCommand.{joins_line}
 use Rattle.mb_desk.specs.MovesCommand.{moves_line}
 use Rattle.mb_desk.specs.World.{World}
 use Rattle.mb_desk.specs.declared.requests.MovesWords.{MovesWords}
@@ -8,6 +12,7 @@ use Rattle.mb_desk.specs.declared.requests.ReachWords.{ReachWords}
 use Rattle.mb_desk.specs.declared.requests.Request.{Request}
 use Rattle.mb_desk.specs.declared.requests.Request.TheVariants as requests
 use Rattle.mb_matrix.specs.Matrix.{IsDesign, design_of}
+use Rattle.mb_matrix.specs.MarkovBasis.{IsMarkovBasis}
 use Rattle.mb_moves.specs.GridText.{matrix_of, moves_of}
 use Rattle.mb_outside.specs.Files.{Held}
 use Rattle.mb_reports.specs.RingTable.{ring_table_of}
@@ -76,7 +81,18 @@ pub record AnswersReach (held : Held) (words : ReachWords) (answer : List ℕ) :
   pub few : length (tables_of rings) ≤ words.limit
   pub printed : answer ≡ ring_table_of rings
 
+-- `check`: the file holds the one text of a valid certificate, whose moves are a Markov basis of its
+-- matrix; the numbers of its rules, moves and joins are printed
+pub record AnswersCheck (held : Held) (name answer : List ℕ) : Type 0 where
+  pub certificate : Certificate
+  pub there : get held name ≡ Some (text_of certificate)
+  pub parts : AreParts certificate
+  pub valid : IsValid certificate
+  pub basis : IsMarkovBasis certificate.matrix certificate.moves
+  pub printed : answer ≡ joins_line certificate
+
 -- the answer is that of the request
 abbrev pub Answers : Request → World → List ℕ → Type 0
 Answers (requests.Moves words) w answer = AnswersMoves w.files words answer
 Answers (requests.Reach words) w answer = AnswersReach w.files words answer
+Answers (requests.Check certificate) w answer = AnswersCheck w.files certificate answer

@@ -1,5 +1,6 @@
 pub mod Calls
 pub mod Changes
+pub mod CheckCommand
 pub mod Commands
 pub mod Completes
 pub mod Decision
@@ -14,6 +15,7 @@ pub mod Needs
 pub mod loops
 pub mod Plans
 pub mod ReachCommand
+pub mod Reasons
 pub mod Refusals
 pub mod Reply
 pub mod Values

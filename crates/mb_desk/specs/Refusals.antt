@@ -2,9 +2,10 @@
 use Rattle.std.specs.Prelude.{List, [], codes, ℕ, ◌∷◌}
 use Rattle.mb_desk.specs.Kinds.{kind_word}
 use Rattle.mb_desk.specs.Lines.{Shown, line_of, number, text}
+use Rattle.mb_desk.specs.Reasons.{reason_word}
 use Rattle.mb_desk.specs.declared.kinds.Kind.{Kind}
 use Rattle.mb_desk.specs.declared.refusals.Refusal.{Refusal}
-use Rattle.mb_desk.specs.declared.refusals.Refusal.TheVariants.{BadNumber, Conflict, EntryTooLarge, Negative, NoFile, NoSize, NotAMove, NotATable, TooFew, TooLarge, TooLong, TooMany, TooManyCells, TooManyMargins, TooWideNumber, Unknown, WidthDiffers, ZeroColumn}
+use Rattle.mb_desk.specs.declared.refusals.Refusal.TheVariants.{BadNumber, Certificate, Conflict, EntryTooLarge, Negative, NoFile, NoSize, NotAMove, NotATable, Text, TooFew, TooLarge, TooLong, TooMany, TooManyCells, TooManyMargins, TooWideNumber, Unknown, WidthDiffers, ZeroColumn}
 use Rattle.mb_desk.specs.declared.status.Status.{Status}
 use Rattle.mb_desk.specs.declared.status.Status.TheVariants as statuses
 
@@ -26,6 +27,8 @@ name_of (TooWideNumber file token) = codes "TooWideNumber"
 name_of (TooFew file found wanted) = codes "TooFew"
 name_of (TooMany file wanted) = codes "TooMany"
 name_of (NotATable file) = codes "NotATable"
+name_of (Text file line) = codes "Text"
+name_of (Certificate line reason) = codes "Certificate"
 name_of (WidthDiffers matrix moves) = codes "WidthDiffers"
 name_of (NotAMove row) = codes "NotAMove"
 name_of TooManyCells = codes "TooManyCells"
@@ -40,6 +43,10 @@ name_of (Conflict kind name) = codes "Conflict"
 -- the field that names a file
 abbrev pub in_file : ℕ → Shown
 in_file file = number (codes "file") file
+
+-- the field that names a line of a text
+abbrev pub at_line : ℕ → Shown
+at_line line = number (codes "line") line
 
 -- the fields that name a record
 abbrev pub record_fields : Kind → List ℕ → List Shown
@@ -60,6 +67,9 @@ fields_of (TooFew file found wanted) =
     in_file file ∷ number (codes "found") found ∷ number (codes "wanted") wanted ∷ []
 fields_of (TooMany file wanted) = in_file file ∷ number (codes "wanted") wanted ∷ []
 fields_of (NotATable file) = in_file file ∷ []
+fields_of (Text file line) = in_file file ∷ at_line line ∷ []
+fields_of (Certificate line reason) =
+    at_line line ∷ text (codes "reason") (reason_word reason) ∷ []
 fields_of (WidthDiffers matrix moves) =
     number (codes "matrix") matrix ∷ number (codes "moves") moves ∷ []
 fields_of (NotAMove row) = number (codes "row") row ∷ []

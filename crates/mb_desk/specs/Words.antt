@@ -5,7 +5,7 @@ use Rattle.std.specs.Str.{bytes_eq}
 use Rattle.std.specs.declared.alloc.Global.{Global}
 use Rattle.mb_desk.specs.Limits.{largest_limit, longest_word}
 use Rattle.mb_desk.specs.declared.requests.Request.{Request}
-use Rattle.mb_desk.specs.declared.requests.Request.TheVariants.{Moves, Reach}
+use Rattle.mb_desk.specs.declared.requests.Request.TheVariants.{Check, Moves, Reach}
 use Rattle.mb_text.specs.Plain.{at_most, plain_of}
 
 -- the bytes of each word
@@ -80,6 +80,11 @@ reach_of_values (Text matrix ∷ Text moves ∷ Text table ∷ Count limit ∷ [
     Some (Reach (record { matrix = matrix; moves = moves; table = table; limit = limit }))
 reach_of_values _ = None
 
+-- and that of `check`
+abbrev pub check_of_values : List Value → Option Request
+check_of_values (Text certificate ∷ []) = Some (Check certificate)
+check_of_values _ = None
+
 -- a row of the table
 abbrev pub command : List ℕ → List Form → List Choice → (List Value → Option Request) → Command
 command word forms choices makes =
@@ -94,9 +99,13 @@ abbrev pub reach_command : Command
 reach_command =
     command (codes "reach") (File ∷ File ∷ File ∷ []) (limit_choice ∷ []) reach_of_values
 
+-- `check CERTIFICATE`
+abbrev pub check_command : Command
+check_command = command (codes "check") (File ∷ []) [] check_of_values
+
 -- the table
 abbrev pub commands : List Command
-commands = moves_command ∷ reach_command ∷ []
+commands = moves_command ∷ reach_command ∷ check_command ∷ []
 
 -- ---- the reader
 

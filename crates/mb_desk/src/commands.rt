@@ -1,4 +1,5 @@
 //! The commands, one a file: each makes its plan, and stores nothing.
 
+pub mod check;
 pub mod moves;
 pub mod reach;

@@ -10,6 +10,7 @@ mod laws;
 mod lines;
 mod plans;
 mod reading;
+mod reasons;
 mod refusals;
 mod reply;
 mod requests;

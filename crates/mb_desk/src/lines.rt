@@ -1,6 +1,7 @@
 //! The one line of a refusal.
-ghost use Rattle.std.specs.Prelude.{◌≡◌, ◌++◌, IfOk, OnOk, string_bytes};
+ghost use Rattle.std.specs.Prelude.{◌≡◌, ◌++◌, IfOk, OnOk, codes, string_bytes};
 ghost use Rattle.mb_desk.specs.Lines.{field_text, line_of, number, text};
+ghost use Rattle.mb_desk.specs.Refusals.{at_line};
 
 use crate::texts::Body;
 use std::alloc::{AllocError, AllocFailed, Global};
@@ -9,7 +10,7 @@ use std::marker::Model;
 /// The value of a field.
 #[derive(Clone, Copy)]
 enum Value<'a> {
-    Number(u32),
+    Number(u64),
     Text(&'a str),
 }
 
@@ -37,7 +38,17 @@ pub fn number(key: &str, value: u32) -> Field<'_>
 {
     Field {
         key,
-        value: Value::Number(value),
+        value: Value::Number(u64::from(value)),
+    }
+}
+
+/// The number of a line, under its key.
+pub fn line_number(line: u64) -> Field<'static>
+    ensures { result ≡ at_line line }
+{
+    Field {
+        key: "line",
+        value: Value::Number(line),
     }
 }
 

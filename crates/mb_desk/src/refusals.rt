@@ -4,15 +4,17 @@ ghost use Rattle.mb_desk.specs.Lines.{line_of};
 ghost use Rattle.mb_desk.specs.Refusals.{name_of, record_fields, refusal_line, status_of};
 
 use crate::kinds::Kind;
-use crate::lines::{Field, number, refused, text};
+use crate::lines::{Field, line_number, number, refused, text};
+use crate::reasons::reason_word;
 use crate::status::Status;
 use crate::texts::{Body, Text};
+use mb_certificate::Reason;
 use std::alloc::{AllocError, Global};
 
 /// Why a request is refused. Each comes exactly where the decision says so: want of memory and
 /// faults of the outside are no refusals. The file words of a command count from 1, tokens of a
-/// file from 1 with the two sizes included, rows of a move file from 1, and rows and cells of a
-/// matrix from 0.
+/// file from 1 with the two sizes included, rows of a move file and lines of a text from 1, and rows
+/// and cells of a matrix from 0.
 #[derive(Drop)]
 pub enum Refusal {
     /// There is no such file.
@@ -32,6 +34,10 @@ pub enum Refusal {
     /// It is a move file, but no table: it hasn't one row, or another width than the matrix, or an
     /// entry below 0, or a sum above 1,000,000.
     NotATable { file: u32 },
+    /// This line of it is the first that leaves its grammar.
+    Text { file: u32, line: u64 },
+    /// The first wrong line of a certificate's text, and what is wrong with it.
+    Certificate { line: u64, reason: Reason },
     /// The moves are over another number of cells than the matrix.
     WidthDiffers { matrix: u32, moves: u32 },
     /// This row of the move file, the first such one, has a margin that isn't 0.
@@ -82,6 +88,8 @@ impl Refusal {
             Refusal::TooFew { .. } => "TooFew",
             Refusal::TooMany { .. } => "TooMany",
             Refusal::NotATable { .. } => "NotATable",
+            Refusal::Text { .. } => "Text",
+            Refusal::Certificate { .. } => "Certificate",
             Refusal::WidthDiffers { .. } => "WidthDiffers",
             Refusal::NotAMove { .. } => "NotAMove",
             Refusal::TooManyCells => "TooManyCells",
@@ -117,6 +125,13 @@ impl Refusal {
             }
             Refusal::TooMany { file, wanted } => {
                 self.with(alloc, &[number("file", *file), number("wanted", *wanted)])
+            }
+            Refusal::Text { file, line } => {
+                self.with(alloc, &[number("file", *file), line_number(*line)])
+            }
+            Refusal::Certificate { line, reason } => {
+                let reason = text("reason", reason_word(*reason));
+                self.with(alloc, &[line_number(*line), reason])
             }
             Refusal::WidthDiffers { matrix, moves } => {
                 self.with(alloc, &[number("matrix", *matrix), number("moves", *moves)])

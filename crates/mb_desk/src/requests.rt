@@ -75,4 +75,6 @@ pub enum Request<'a> {
     Moves(MovesWords<'a>),
     /// `reach MATRIX MOVES TABLE [--limit L]`.
     Reach(ReachWords<'a>),
+    /// `check CERTIFICATE`, the name of a file.
+    Check { certificate: Word<'a> },
 }

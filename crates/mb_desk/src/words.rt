@@ -3,7 +3,7 @@ ghost use Rattle.std.specs.List.{list_any};
 ghost use Rattle.std.specs.Prelude.{◌≡◌, ◌≤◌, ◌<◌, ◌∷◌, ◌+◌, ◌++◌, IfSome, MatchOption, None, map, option_map, length};
 ghost use Rattle.std.specs.Str.{bytes_eq};
 ghost use Rattle.mb_desk.specs.loops.OptionsSoFar.{values_so_far};
-ghost use Rattle.mb_desk.specs.Words.{Count, are_options, at_most_one, chosen, given, given_by, is_file, limit_choice, moves_command, number_choice, number_within, reach_command, read_command, request_of, texts};
+ghost use Rattle.mb_desk.specs.Words.{Count, are_options, at_most_one, check_command, chosen, given, given_by, is_file, limit_choice, moves_command, number_choice, number_within, reach_command, read_command, request_of, texts};
 
 use crate::requests::{LARGEST_LIMIT, Limit, MovesWords, ReachWords, Request};
 use crate::texts::Word;
@@ -187,6 +187,22 @@ fn read_reach(words: &[String]) -> Option<Request<'_>>
     }))
 }
 
+/// `check CERTIFICATE`.
+fn read_check(words: &[String]) -> Option<Request<'_>>
+    ensures { result ≡ read_command check_command (texts words.now) }
+{
+    let [certificate, options @ ..] = words else {
+        return None;
+    };
+    let certificate = certificate.as_str();
+    if !is_file_word(certificate) || !are_options(options, &[]) {
+        return None;
+    }
+    Some(Request::Check {
+        certificate: Word::of(certificate),
+    })
+}
+
 /// The request of the words, where they are one: the command, its positional words in order, then
 /// its options in any order.
 pub fn read_words(words: &[String]) -> Option<Request<'_>>
@@ -199,6 +215,9 @@ pub fn read_words(words: &[String]) -> Option<Request<'_>>
     }
     if command == "reach" {
         return read_reach(words);
+    }
+    if command == "check" {
+        return read_check(words);
     }
     None
 }

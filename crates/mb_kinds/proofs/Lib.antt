@@ -2,7 +2,6 @@ pub mod Chains
 pub mod Genotypes
 pub mod Levels
 pub mod LineItems
-pub mod MatrixOfRows
 pub mod NameBytes
 pub mod NumberItems
 pub mod PairsOfThree

@@ -7,7 +7,7 @@ use Rattle.std.proofs.lemmas.Simd.{map-map}
 use Rattle.std.specs.Fmt.{decimal}
 use Rattle.std.specs.List.{flat_map, range_with_len}
 use Rattle.mb_kinds.proofs.LineItems.{decimals_are_items, says_written}
-use Rattle.mb_kinds.proofs.MatrixOfRows.{is_of_rows, row_long, rows_array}
+use Rattle.mb_matrix.proofs.MatrixOfRows.{is_of_rows, row_long, rows_array}
 use Rattle.mb_kinds.proofs.RecordSteps.{step_on, with_base, with_dataset, with_last, with_matrix, with_measure, with_rows, with_scale, with_sizes, with_version}
 use Rattle.mb_kinds.proofs.SaidLines.{base_said, dataset_items, dataset_said, no_scale_fault, scale_are_items, scale_said, sizes_items, sizes_said}
 use Rattle.mb_kinds.proofs.WrittenRecords.{IsRow, rows_written}

@@ -9,6 +9,7 @@ pub mod ListedTables
 pub mod MarginBounds
 pub mod MarginLaws
 pub mod MarginSums
+pub mod MatrixOfRows
 pub mod MovedMargins
 pub mod NoFault
 pub mod NumberedRows

@@ -48,7 +48,7 @@ fn numbers_of(completed: &Completed) -> Answer {
 }
 
 /// The design matrix of these entries.
-fn matrix_of(alloc: Global, rows: u32, cols: u32, entries: &[i32]) -> Result<Matrix, Fail> {
+pub fn matrix_of(alloc: Global, rows: u32, cols: u32, entries: &[i32]) -> Result<Matrix, Fail> {
     if u64::from(rows) * u64::from(cols) != entries.len() as u64 {
         return Err(Fail::from("another number of entries"));
     }
@@ -140,7 +140,7 @@ fn has_rules(
 }
 
 /// Independence in a 2 x 2 table.
-const TWO_BY_TWO: &[i32] = &[1, 1, 0, 0, 0, 0, 1, 1, 1, 0, 1, 0, 0, 1, 0, 1];
+pub const TWO_BY_TWO: &[i32] = &[1, 1, 0, 0, 0, 0, 1, 1, 1, 0, 1, 0, 0, 1, 0, 1];
 
 /// The rules of independence in a 2 x 2 table, as the worked certificate lists them.
 const WORKED: [u16; 144] = [

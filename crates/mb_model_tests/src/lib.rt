@@ -5,6 +5,12 @@
 #![tactic(auto)]
 
 #[cfg(test)]
+mod certificates;
+#[cfg(test)]
+mod certificates_made;
+#[cfg(test)]
+mod checker;
+#[cfg(test)]
 mod completion_cases;
 #[cfg(test)]
 mod completions;

@@ -8,3 +8,4 @@ pub mod StepLaws
 pub mod SymbolSets
 pub mod VisitedSymbols
 pub mod WeightLaws
+pub mod ZerosAndUnits

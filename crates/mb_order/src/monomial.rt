@@ -1,6 +1,6 @@
 //! Monomials in the symbols of margins and cells.
 
-ghost use Rattle.std.specs.Prelude.{◌≡◌, ◌<◌, ◌≤◌, ◌+◌, ◌++◌, IfOk, length, true, ℕ};
+ghost use Rattle.std.specs.Prelude.{◌≡◌, ◌<◌, ◌≤◌, ◌+◌, ◌++◌, All, IfOk, length, true, ℕ};
 ghost use Rattle.std.specs.Bool.{OnFalse, OnTrue};
 ghost use Rattle.mb_order.specs.Limits.{largest_exponent};
 ghost use Rattle.mb_order.specs.MarginFree.{margin_free};
@@ -79,8 +79,10 @@ impl Monomial {
     pub fn cells(&self) -> u32
         ensures cells { length self.now.list ≡ self.now.margins + result }
         ensures sound { AreExponents self.now }
+        ensures small { All (λ exponent. exponent ≤ largest_exponent) self.now.list }
     {
-        self.exponents.len() as u32 - self.margins
+        let exponents = self.exponents.as_slice();
+        exponents.len() as u32 - self.margins
     }
 
     /// The exponent of a margin's symbol. Margins count from 0.

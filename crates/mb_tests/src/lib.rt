@@ -6,6 +6,8 @@
 #![tactic(auto)]
 
 #[cfg(test)]
+mod check_command;
+#[cfg(test)]
 mod fibers;
 #[cfg(test)]
 mod gates;

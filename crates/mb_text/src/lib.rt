@@ -17,4 +17,4 @@ pub use pieces::{after_word, next_item, next_line};
 pub use plain::{plain_number, plain_signed};
 pub use plain_lines::{PlainNumber, read_numbers};
 pub use tokens::{next_token, skip_blanks};
-pub use writing::{push_line, push_number, push_text, push_word_line};
+pub use writing::{push_line, push_number, push_numbers, push_spaced, push_text, push_word_line};

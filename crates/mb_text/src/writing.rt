@@ -25,7 +25,7 @@ pub fn push_number<I: Integer>(out: &mut Vec<u8>, number: I) -> Result<(), OutOf
 }
 
 /// Puts numbers at the end of a text, a space before each.
-fn push_spaced<I: Integer>(out: &mut Vec<u8>, numbers: &[I]) -> Result<(), OutOfMemory>
+pub fn push_spaced<I: Integer>(out: &mut Vec<u8>, numbers: &[I]) -> Result<(), OutOfMemory>
     ensures { OnOk result
         (out.new.items ≡ out.old.items ++ flat_map (λ n. 32 ∷ I.text n) numbers.now) }
 {
@@ -37,7 +37,7 @@ fn push_spaced<I: Integer>(out: &mut Vec<u8>, numbers: &[I]) -> Result<(), OutOf
 }
 
 /// Puts numbers at the end of a text, one space between each two.
-fn push_numbers<I: Integer>(out: &mut Vec<u8>, numbers: &[I]) -> Result<(), OutOfMemory>
+pub fn push_numbers<I: Integer>(out: &mut Vec<u8>, numbers: &[I]) -> Result<(), OutOfMemory>
     ensures { OnOk result
         (out.new.items ≡ out.old.items ++ join_with_byte 32 (map I.text numbers.now)) }
 {

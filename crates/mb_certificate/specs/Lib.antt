@@ -1,0 +1,9 @@
+pub mod Certificate
+pub mod CertificateText
+pub mod FirstFault
+pub mod Laws
+pub mod Reading
+pub mod Sides
+pub mod Valid
+pub mod Written
+pub mod loops

@@ -1,0 +1,2 @@
+-- What the reading of a text keeps.
+pub mod Counted

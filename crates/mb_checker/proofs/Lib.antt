@@ -1,0 +1,16 @@
+pub mod JoinLines
+pub mod JudgedLines
+pub mod LightStarts
+pub mod LightSteps
+pub mod LinesOfParts
+pub mod PairTurns
+pub mod PartsByTests
+pub mod PathLines
+pub mod ReplayedSteps
+pub mod SameWeights
+pub mod SignedSteps
+pub mod SmallCertificates
+pub mod TableCells
+pub mod Turns
+pub mod ValidCertificates
+pub mod WholeText
