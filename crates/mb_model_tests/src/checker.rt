@@ -65,121 +65,149 @@ fn is_refused(verdict: Verdict, line: u64, reason: Reason) -> bool {
     verdict == Verdict::Refused { line, reason }
 }
 
-// Each line but one holds, or the first of those that don't is asked for.
+/// A further move, whose margin isn't 0.
+const TWO_MOVES: &str = "moves 2\n1 -1\n1 0\n";
+
+/// A further rule, whose sides weigh otherwise.
+const MORE: &str = "rules 3\n0 1 0 > 0 0 1\n1 0 0 > 0 0 1\n0 0 1 > 2 0 0\n";
+
+/// One that leads up.
+const UP: &str = "rules 3\n0 1 0 > 0 0 1\n1 0 0 > 0 0 1\n0 0 1 > 1 0 0\n";
+
+/// Rules of which two have a peak that is too heavy, and what follows their starts.
+const HEAVY: &str = "rules 3\n1 0 0 > 0 0 1\n0 1 0 > 0 0 1\n0 2 65534 > 0 1 65535\n";
+
+const JOINED: &str = "joins 1\n1 2 0 0\npaths 2\n1 1 -1\n2 1 -1\n";
+
+/// Moves, rules, starts and the rest of a certificate of two cells; its first wrong line, and why.
+type Case = (
+    &'static str,
+    &'static str,
+    &'static str,
+    &'static str,
+    u64,
+    Reason,
+);
+
+/// In each but the last, one line alone is wrong, or the first of those that are is meant.
+const CASES: [Case; 15] = [
+    (TWO_MOVES, RULES, STARTS, PATHS, 7, Reason::MoveMargins),
+    (MOVES, MORE, STARTS, PATHS, 10, Reason::WeightDiffers),
+    (MOVES, UP, STARTS, PATHS, 10, Reason::NotDown),
+    (
+        MOVES,
+        RULES,
+        "starts 2\n1 1 1 0\n0 0\n",
+        PATHS,
+        12,
+        Reason::StartNotJoined,
+    ),
+    (
+        MOVES,
+        RULES,
+        "starts 2\n1 1 1 0\n1 0 2\n",
+        PATHS,
+        12,
+        Reason::StepNotApplicable,
+    ),
+    (
+        MOVES,
+        RULES,
+        "starts 2\n1 1 1 0\n1 0 0\n",
+        PATHS,
+        12,
+        Reason::StepNotApplicable,
+    ),
+    (
+        MOVES,
+        RULES,
+        STARTS,
+        "joins 1\n0 1 0 0\npaths 1\n0 1 -1\n",
+        14,
+        Reason::PairMissing,
+    ),
+    (
+        MOVES,
+        HEAVY,
+        "starts 2\n1 1 0 1\n1 0 0\n",
+        JOINED,
+        15,
+        Reason::PeakTooHeavy,
+    ),
+    (
+        MOVES,
+        RULES,
+        STARTS,
+        "joins 0\npaths 1\n1 1 -1\n",
+        15,
+        Reason::PathMissing,
+    ),
+    (
+        MOVES,
+        RULES,
+        STARTS,
+        "joins 0\npaths 0\n",
+        15,
+        Reason::PathMissing,
+    ),
+    (
+        MOVES,
+        RULES,
+        STARTS,
+        "joins 0\npaths 1\n0 1 2\n",
+        15,
+        Reason::StepNotApplicable,
+    ),
+    (
+        MOVES,
+        RULES,
+        STARTS,
+        "joins 0\npaths 1\n0 2 1 2\n",
+        15,
+        Reason::StepNotApplicable,
+    ),
+    (
+        MOVES,
+        RULES,
+        STARTS,
+        "joins 0\npaths 1\n0 1 1\n",
+        15,
+        Reason::PathBelowZero,
+    ),
+    (
+        MOVES,
+        RULES,
+        STARTS,
+        "joins 0\npaths 1\n0 0\n",
+        15,
+        Reason::PathEnd,
+    ),
+    (
+        TWO_MOVES,
+        UP,
+        "starts 2\n0 0\n0 0\n",
+        "joins 0\npaths 0\n",
+        7,
+        Reason::MoveMargins,
+    ),
+];
+
+/// The place of the first case in which another line is found, or another reason.
+fn first_missed(alloc: Global, cases: &[Case]) -> Result<Option<usize>, Fail> {
+    for (place, (moves, rules, starts, rest, line, reason)) in cases.iter().enumerate() {
+        let verdict = two_cells(alloc, *moves, *rules, *starts, *rest)?;
+        if !is_refused(verdict, *line, *reason) {
+            return Ok(Some(place));
+        }
+    }
+    Ok(None)
+}
+
 #[test]
 fn the_first_wrong_line(rt: HostRuntime) -> Result<(), Fail> {
     let alloc = rt.alloc();
     assert!(rt; two_cells(alloc, MOVES, RULES, STARTS, PATHS)? == Verdict::Joins);
-    let more = "rules 3\n0 1 0 > 0 0 1\n1 0 0 > 0 0 1\n0 0 1 > 2 0 0\n";
-    let up = "rules 3\n0 1 0 > 0 0 1\n1 0 0 > 0 0 1\n0 0 1 > 1 0 0\n";
-    let heavy = "rules 3\n1 0 0 > 0 0 1\n0 1 0 > 0 0 1\n0 2 65534 > 0 1 65535\n";
-    let joined = "joins 1\n1 2 0 0\npaths 2\n1 1 -1\n2 1 -1\n";
-    let two_moves = "moves 2\n1 -1\n1 0\n";
-    let cases: [(&str, &str, &str, &str, u64, Reason); 15] = [
-        (two_moves, RULES, STARTS, PATHS, 7, Reason::MoveMargins),
-        (MOVES, more, STARTS, PATHS, 10, Reason::WeightDiffers),
-        (MOVES, up, STARTS, PATHS, 10, Reason::NotDown),
-        (
-            MOVES,
-            RULES,
-            "starts 2\n1 1 1 0\n0 0\n",
-            PATHS,
-            12,
-            Reason::StartNotJoined,
-        ),
-        (
-            MOVES,
-            RULES,
-            "starts 2\n1 1 1 0\n1 0 2\n",
-            PATHS,
-            12,
-            Reason::StepNotApplicable,
-        ),
-        (
-            MOVES,
-            RULES,
-            "starts 2\n1 1 1 0\n1 0 0\n",
-            PATHS,
-            12,
-            Reason::StepNotApplicable,
-        ),
-        (
-            MOVES,
-            RULES,
-            STARTS,
-            "joins 1\n0 1 0 0\npaths 1\n0 1 -1\n",
-            14,
-            Reason::PairMissing,
-        ),
-        (
-            MOVES,
-            heavy,
-            "starts 2\n1 1 0 1\n1 0 0\n",
-            joined,
-            15,
-            Reason::PeakTooHeavy,
-        ),
-        (
-            MOVES,
-            RULES,
-            STARTS,
-            "joins 0\npaths 1\n1 1 -1\n",
-            15,
-            Reason::PathMissing,
-        ),
-        (
-            MOVES,
-            RULES,
-            STARTS,
-            "joins 0\npaths 0\n",
-            15,
-            Reason::PathMissing,
-        ),
-        (
-            MOVES,
-            RULES,
-            STARTS,
-            "joins 0\npaths 1\n0 1 2\n",
-            15,
-            Reason::StepNotApplicable,
-        ),
-        (
-            MOVES,
-            RULES,
-            STARTS,
-            "joins 0\npaths 1\n0 2 1 2\n",
-            15,
-            Reason::StepNotApplicable,
-        ),
-        (
-            MOVES,
-            RULES,
-            STARTS,
-            "joins 0\npaths 1\n0 1 1\n",
-            15,
-            Reason::PathBelowZero,
-        ),
-        (
-            MOVES,
-            RULES,
-            STARTS,
-            "joins 0\npaths 1\n0 0\n",
-            15,
-            Reason::PathEnd,
-        ),
-        (
-            two_moves,
-            up,
-            "starts 2\n0 0\n0 0\n",
-            "joins 0\npaths 0\n",
-            7,
-            Reason::MoveMargins,
-        ),
-    ];
-    for (moves, rules, starts, rest, line, reason) in cases {
-        let verdict = two_cells(alloc, moves, rules, starts, rest)?;
-        assert!(rt; is_refused(verdict, line, reason));
-    }
+    assert!(rt; first_missed(alloc, &CASES)?.is_none());
     Ok(())
 }
 
