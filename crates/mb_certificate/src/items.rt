@@ -90,6 +90,14 @@ impl<'a> Items<'a> {
         self.number
     }
 
+    /// How many numbers the rest of the line can have at most: each takes a byte or more.
+    pub fn most(&self) -> u64 {
+        match self.rest {
+            None => 0,
+            Some(rest) => rest.len() as u64,
+        }
+    }
+
     /// Takes a number.
     pub fn one<N: ItemNumber>(&mut self) -> Result<N, ReadFault>
         ensures { Gives read_cause (λ n. (n, self.new)) result (one N.of_item self.old) }

@@ -20,13 +20,15 @@ use mb_order::{Monomial, Order};
 use mb_tables::{MOST_CELLS, Move};
 use std::alloc::Global;
 
-/// So many numbers, item by item.
+/// So many numbers, item by item. There is room for them at once, but for no more than the line can
+/// have.
 fn numbers<N: ItemNumber>(alloc: Global, items: &mut Items, count: u64) -> Result<Vec<N>, ReadFault>
     ensures numbers { Gives read_cause (λ v. (v.items, items.new)) result
         (times (one N.of_item) count items.old) }
     ensures many { IfOk result (λ v. length v.items ≡ count) }
 {
-    let mut numbers = Vec::new(alloc);
+    let room = count.min(items.most());
+    let mut numbers = Vec::with_capacity(alloc, room as usize)?;
     for _ in 0..count {
         numbers.push(items.one::<N>()?)?;
     }

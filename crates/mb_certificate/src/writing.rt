@@ -60,12 +60,12 @@ fn push_moves(out: &mut Vec<u8>, moves: &[Move]) -> Result<(), OutOfMemory>
 }
 
 /// Puts the lines of rules at the end of a text.
-fn push_rules(alloc: Global, out: &mut Vec<u8>, rules: &[Pair]) -> Result<(), OutOfMemory>
+fn push_rules(out: &mut Vec<u8>, rules: &[Pair]) -> Result<(), OutOfMemory>
     ensures { OnOk result
         (out.new.items ≡ out.old.items ++ flat_map (λ p. line (rule_items (sides p))) rules.now) }
 {
     for pair in rules {
-        push_rule(alloc, out, pair)?;
+        push_rule(out, pair)?;
     }
     Ok(())
 }
@@ -100,11 +100,11 @@ fn push_move_section(out: &mut Vec<u8>, moves: &[Move]) -> Result<(), OutOfMemor
 }
 
 /// Puts the rules at the end of a text.
-fn push_rule_section(alloc: Global, out: &mut Vec<u8>, rules: &[Pair]) -> Result<(), OutOfMemory>
+fn push_rule_section(out: &mut Vec<u8>, rules: &[Pair]) -> Result<(), OutOfMemory>
     ensures { OnOk result (out.new.items ≡ out.old.items ++ rules_text (map sides rules.now)) }
 {
     push_word_line(out, b"rules", &[rules.len() as u64])?;
-    push_rules(alloc, out, rules)
+    push_rules(out, rules)
 }
 
 /// Puts what a certificate begins with at the end of a text.
@@ -142,7 +142,7 @@ pub fn write(alloc: Global, certificate: &Certificate) -> Result<Vec<u8>, OutOfM
     let mut out = Vec::new(alloc);
     push_head(&mut out, certificate.matrix(), certificate.order())?;
     push_move_section(&mut out, certificate.moves().as_slice())?;
-    push_rule_section(alloc, &mut out, certificate.rules())?;
+    push_rule_section(&mut out, certificate.rules())?;
     push_proof(
         &mut out,
         certificate.starts(),
@@ -158,6 +158,6 @@ pub fn rule_table(alloc: Global, certificate: &Certificate) -> Result<Vec<u8>, O
     ensures { IfOk result (λ text. text.items ≡ rules_text certificate.now.rules) }
 {
     let mut out = Vec::new(alloc);
-    push_rule_section(alloc, &mut out, certificate.rules())?;
+    push_rule_section(&mut out, certificate.rules())?;
     Ok(out)
 }

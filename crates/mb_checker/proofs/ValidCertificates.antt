@@ -1,22 +1,26 @@
 -- The joining theorem: a valid certificate's parts are the premises of the joining law. Its joins
 -- say that each pair of rules meets, its starts that each cell's two monomials do, and its paths
 -- that the moves join the two tables of each margin-free rule. The orders need no premise, and
--- the moves have margins 0, so they are a Markov basis.
+-- the moves have margins 0, so they are a Markov basis. The same for each law on the way.
 use Rattle.std.proofs.Common.{Bool, List, Some, [], ap, arith, drop, inl, inr, length, negsuc, pos, slice_get, subst, suc, sym, true, zero, ℕ, ℤ, ◌+◌, ◌∙◌, ◌∷◌, ◌≡◌}
 use Rattle.std.specs.List.{range_with_len}
 use Rattle.mb_certificate.proofs.LineFaults.{all-at}
 use Rattle.mb_certificate.proofs.Reasons.{true-both}
 use Rattle.mb_certificate.specs.Certificate.{AreParts, Certificate, Path}
 use Rattle.mb_certificate.specs.Valid.{IsValid, MovesBy, PeakMeets, TracesMeet, Walks, is_free, pair_of}
+use Rattle.mb_checker.specs.Premises.{PremisesHold}
 use Rattle.mb_matrix.specs.MarkovBasis.{IsMarkovBasis}
 use Rattle.mb_order.proofs.OrderLaws.{eliminates, is_order}
 use Rattle.mb_order.proofs.PeakLaws.{In-pairs, left-is}
+use Rattle.mb_order.proofs.WeightLaws.{symbols-fit}
 use Rattle.mb_order.specs.MarginFree.{margin_free}
 use Rattle.mb_order.specs.Monomial.{Monomial}
 use Rattle.mb_order.specs.Order.{monomial_cmp}
 use Rattle.mb_order.specs.Peak.{PairsMeet, left_in, left_of, pairs_below, right_in, right_of, sides_of}
 use Rattle.mb_order.specs.Rewriting.{Meet, Rule}
+use Rattle.mb_order.specs.Weight.{symbols}
 use Rattle.mb_rules.proofs.ByMoves.{joined}
+use Rattle.mb_rules.proofs.LocalConfluence.{critical_pairs}
 use Rattle.mb_rules.specs.Elimination.{PathsJoin, StartsMeet}
 use Rattle.mb_tables.proofs.ListLaws.{In-filter, In-map_range, In-place, In-range, place-within, some_at}
 use Rattle.mb_tables.specs.Chain.{Chain, Joined}
@@ -119,4 +123,26 @@ module _ (c : Certificate) (h : IsValid c) where
         joins = joined d columns (monomial_cmp c.order d) c.rules c.moves h.rules paths-join
             parts.design.each (is_order c.order d (d + length columns))
             (eliminates c.order d (d + length columns)) pairs-meet (starts-meet parts);
+      }
+
+  -- and its parts meet the premises of each law of rewriting
+  pub premises-hold : AreParts c →
+      PremisesHold c.order c.matrix.rows c.matrix.columns c.rules c.moves
+  premises-hold parts =
+      let d = c.matrix.rows in
+      let columns = c.matrix.columns in
+      let compare = monomial_cmp c.order d in
+      let fit = parts.design.each in
+      let order = is_order c.order d (d + length columns) in
+      let free = eliminates c.order d (d + length columns) in
+      let valid = h.rules in
+      let starts = starts-meet parts in
+      let local = critical_pairs d (symbols d columns) compare c.rules valid pairs-meet in
+      let by_all = is_order c.order d (length (symbols d columns)) in record {
+        critical_pairs = (valid, pairs-meet);
+        newman = (symbols-fit d columns fit, by_all, valid, local);
+        elimination = (fit, order, free, valid, pairs-meet, starts);
+        paths = (fit, order, free, valid, pairs-meet, starts, paths-join);
+        joining = (fit, valid, pairs-meet, starts, paths-join);
+        normal_forms = (fit, valid);
       }

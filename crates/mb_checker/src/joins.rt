@@ -13,57 +13,69 @@ use crate::rules::rule;
 use crate::stop::Stop;
 use crate::traces::{ends_fault, step};
 use mb_certificate::{Certificate, Fault, Join, Reason};
-use mb_order::Monomial;
+use mb_matrix::Matrix;
+use mb_order::{Monomial, zeros_of};
 use mb_tables::OutOfMemory;
 use std::alloc::Global;
 
-/// The least common multiple of the left sides of two rules.
-fn peak(
-    alloc: Global,
-    certificate: &Certificate,
-    low: u32,
-    high: u32,
-) -> Result<Monomial, OutOfMemory>
+/// The monomial 1 of a matrix: no symbol occurs.
+fn one_of(alloc: Global, matrix: &Matrix) -> Result<Monomial, OutOfMemory>
+    ensures { IfOk result (Suits matrix.now) }
+{
+    let margins = zeros_of(alloc, matrix.rows() as usize)?;
+    let cells = zeros_of(alloc, matrix.cols() as usize)?;
+    Ok(Monomial::try_new(alloc, margins.as_slice(), cells.as_slice())?)
+}
+
+/// Puts the least common multiple of the left sides of two rules into a monomial.
+fn put_peak(certificate: &Certificate, low: u32, high: u32, m: &mut Monomial)
     requires low { low < length certificate.now.rules }
     requires high { high < length certificate.now.rules }
-    ensures list { IfOk result (λ m. m.list
-        ≡ peak (sides_of certificate.now.rules low) (sides_of certificate.now.rules high)) }
-    ensures shape { IfOk result (Suits certificate.now.matrix) }
+    requires shape { Suits certificate.now.matrix m.old }
+    ensures list { m.new.list
+        ≡ peak (sides_of certificate.now.rules low) (sides_of certificate.now.rules high) }
+    ensures shape { Suits certificate.now.matrix m.new }
 {
     let low = rule(certificate, low);
     let high = rule(certificate, high);
-    Ok(low.left.lcm(alloc, &high.left)?)
+    m.copy_from(&low.left);
+    m.raise_to_lcm(&high.left);
 }
 
-/// What is wrong with the traces of a join.
+/// What is wrong with the traces of a join. The two sides of its peak are made in `p` and `q`.
 fn peak_fault(
-    alloc: Global,
     certificate: &Certificate,
     join: &Join,
-) -> Result<Option<Reason>, OutOfMemory>
+    p: &mut Monomial,
+    q: &mut Monomial,
+) -> Option<Reason>
     requires low { join.now.low < length certificate.now.rules }
     requires high { join.now.high < length certificate.now.rules }
     requires valid { AreRules certificate.now.matrix certificate.now.order certificate.now.rules }
-    ensures { IfOk result (λ fault. fault
+    requires p_shape { Suits certificate.now.matrix p.old }
+    requires q_shape { Suits certificate.now.matrix q.old }
+    ensures fault { result
         ≡ peak_fault certificate.now.matrix certificate.now.rules join.now
         (sides_of certificate.now.rules join.now.low)
-        (sides_of certificate.now.rules join.now.high)) }
+        (sides_of certificate.now.rules join.now.high) }
+    ensures p_shape { Suits certificate.now.matrix p.new }
+    ensures q_shape { Suits certificate.now.matrix q.new }
 {
-    let mut first = peak(alloc, certificate, join.low, join.high)?;
-    if !first.is_light(certificate.matrix()) {
-        return Ok(Some(Reason::PeakTooHeavy));
+    put_peak(certificate, join.low, join.high, p);
+    if !p.is_light(certificate.matrix()) {
+        return Some(Reason::PeakTooHeavy);
     }
-    let mut second = first.try_copy(alloc)?;
-    step(certificate, join.low, &mut first);
-    step(certificate, join.high, &mut second);
-    Ok(ends_fault(
+    q.copy_from(p);
+    step(certificate, join.low, p);
+    step(certificate, join.high, q);
+    ends_fault(
         certificate,
         join.low_steps.as_slice(),
-        first,
+        p,
         join.high_steps.as_slice(),
-        second,
+        q,
         Reason::PairNotJoined,
-    ))
+    )
 }
 
 /// Whether a join is of these two rules.
@@ -75,30 +87,34 @@ fn is_of(join: &Join, low: u32, high: u32) -> bool
 
 /// What is wrong with the next line, which is to be that of the join of two rules.
 fn pair_fault(
-    alloc: Global,
     certificate: &Certificate,
     low: u32,
     high: u32,
     next: usize,
-) -> Result<Option<Reason>, OutOfMemory>
+    p: &mut Monomial,
+    q: &mut Monomial,
+) -> Option<Reason>
     requires low { low < high }
     requires high { high < length certificate.now.rules }
     requires next { next ≤ length certificate.now.joins }
     requires turn { slice_get (shared_pairs certificate.now.rules) next ≡ Some (low, high) }
     requires valid { AreRules certificate.now.matrix certificate.now.order certificate.now.rules }
-    ensures line { IfOk result (λ fault.
-        slice_get (join_lines certificate.now) next ≡ Some fault) }
-    ensures there { IfOk result (λ fault. fault ≡ None → next < length certificate.now.joins) }
+    requires p_shape { Suits certificate.now.matrix p.old }
+    requires q_shape { Suits certificate.now.matrix q.old }
+    ensures line { slice_get (join_lines certificate.now) next ≡ Some result }
+    ensures there { result ≡ None → next < length certificate.now.joins }
+    ensures p_shape { Suits certificate.now.matrix p.new }
+    ensures q_shape { Suits certificate.now.matrix q.new }
 {
     let joins = certificate.joins();
     if next == joins.len() {
-        return Ok(Some(Reason::PairMissing));
+        return Some(Reason::PairMissing);
     }
     let join = &joins[next];
     if !is_of(join, low, high) {
-        return Ok(Some(Reason::PairMissing));
+        return Some(Reason::PairMissing);
     }
-    Ok(peak_fault(alloc, certificate, join)?)
+    peak_fault(certificate, join, p, q)
 }
 
 /// Whether the left sides of two rules share a symbol.
@@ -117,25 +133,30 @@ fn is_shared(certificate: &Certificate, low: u32, high: u32) -> bool
 /// of their join. The answer is the number of lines judged since; the first of them stands in
 /// `line`.
 fn check_pair(
-    alloc: Global,
     certificate: &Certificate,
     low: u32,
     high: u32,
     next: usize,
     line: u64,
+    p: &mut Monomial,
+    q: &mut Monomial,
 ) -> Result<usize, Stop>
     requires low { low < high }
     requires high { high < length certificate.now.rules }
     requires line { line ≤ 2 ^ 60 }
     requires met { AreMet certificate.now low high next }
     requires valid { AreRules certificate.now.matrix certificate.now.order certificate.now.rules }
+    requires p_shape { Suits certificate.now.matrix p.old }
+    requires q_shape { Suits certificate.now.matrix q.old }
     ensures met { IfOk result (λ now. AreMet certificate.now (low + 1) high now) }
     ensures wrong { OnErr result (Finds result (first_from line (join_lines certificate.now))) }
+    ensures p_shape { Suits certificate.now.matrix p.new }
+    ensures q_shape { Suits certificate.now.matrix q.new }
 {
     if !is_shared(certificate, low, high) {
         return Ok(next);
     }
-    if let Some(reason) = pair_fault(alloc, certificate, low, high, next)? {
+    if let Some(reason) = pair_fault(certificate, low, high, next, p, q) {
         let line = line + next as u64;
         return Err(Stop::Wrong(Fault { line, reason }));
     }
@@ -144,22 +165,27 @@ fn check_pair(
 
 /// Judges the lines of the joins of a rule with those before it. The answer is as above.
 fn check_row(
-    alloc: Global,
     certificate: &Certificate,
     high: u32,
     next: usize,
     line: u64,
+    p: &mut Monomial,
+    q: &mut Monomial,
 ) -> Result<usize, Stop>
     requires high { high < length certificate.now.rules }
     requires line { line ≤ 2 ^ 60 }
     requires met { AreMet certificate.now 0 high next }
     requires valid { AreRules certificate.now.matrix certificate.now.order certificate.now.rules }
+    requires p_shape { Suits certificate.now.matrix p.old }
+    requires q_shape { Suits certificate.now.matrix q.old }
     ensures met { IfOk result (λ now. AreMet certificate.now 0 (high + 1) now) }
     ensures wrong { OnErr result (Finds result (first_from line (join_lines certificate.now))) }
+    ensures p_shape { Suits certificate.now.matrix p.new }
+    ensures q_shape { Suits certificate.now.matrix q.new }
 {
     let mut judged = next;
     for low in 0..high {
-        judged = check_pair(alloc, certificate, low, high, judged, line)?;
+        judged = check_pair(certificate, low, high, judged, line, p, q)?;
     }
     Ok(judged)
 }
@@ -171,10 +197,12 @@ pub fn check_joins(alloc: Global, certificate: &Certificate, line: u64) -> Resul
     requires valid { AreRules certificate.now.matrix certificate.now.order certificate.now.rules }
     ensures { Finds result (first_from line (join_lines certificate.now)) }
 {
+    let mut p = one_of(alloc, certificate.matrix())?;
+    let mut q = one_of(alloc, certificate.matrix())?;
     let rules = certificate.rules().len() as u32;
     let mut next = 0usize;
     for high in 0..rules {
-        next = check_row(alloc, certificate, high, next, line)?;
+        next = check_row(certificate, high, next, line, &mut p, &mut q)?;
     }
     if next < certificate.joins().len() {
         let line = line + next as u64;

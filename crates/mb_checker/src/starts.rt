@@ -50,14 +50,14 @@ fn start_fault(
     ensures { IfOk result (λ fault. fault
         ≡ start_fault certificate.now.matrix certificate.now.rules cell start.now) }
 {
-    let first = of_column(alloc, certificate.matrix(), cell)?;
-    let second = of_cell(alloc, certificate.matrix(), cell)?;
+    let mut first = of_column(alloc, certificate.matrix(), cell)?;
+    let mut second = of_cell(alloc, certificate.matrix(), cell)?;
     Ok(ends_fault(
         certificate,
         start.margin_steps.as_slice(),
-        first,
+        &mut first,
         start.cell_steps.as_slice(),
-        second,
+        &mut second,
         Reason::StartNotJoined,
     ))
 }

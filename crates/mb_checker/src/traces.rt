@@ -48,21 +48,27 @@ fn replay(certificate: &Certificate, trace: &[u32], m: &mut Monomial) -> bool
 pub fn ends_fault(
     certificate: &Certificate,
     first: &[u32],
-    mut a: Monomial,
+    a: &mut Monomial,
     second: &[u32],
-    mut b: Monomial,
+    b: &mut Monomial,
     differ: Reason,
 ) -> Option<Reason>
     requires valid { AreRules certificate.now.matrix certificate.now.order certificate.now.rules }
-    requires a_shape { Suits certificate.now.matrix a }
-    requires a_light { IsLight certificate.now.matrix a.list }
-    requires b_shape { Suits certificate.now.matrix b }
-    requires b_light { IsLight certificate.now.matrix b.list }
-    ensures { result ≡ ends_fault differ (replay certificate.now.rules first.now a.list)
-        (replay certificate.now.rules second.now b.list) }
+    requires a_shape { Suits certificate.now.matrix a.old }
+    requires a_light { IsLight certificate.now.matrix a.old.list }
+    requires b_shape { Suits certificate.now.matrix b.old }
+    requires b_light { IsLight certificate.now.matrix b.old.list }
+    ensures fault { result ≡ ends_fault differ
+        (replay certificate.now.rules first.now a.old.list)
+        (replay certificate.now.rules second.now b.old.list) }
+    ensures a_shape { Suits certificate.now.matrix a.new }
+    ensures b_shape { Suits certificate.now.matrix b.new }
 {
-    if !replay(certificate, first, &mut a) || !replay(certificate, second, &mut b) {
+    if !replay(certificate, first, a) {
         return Some(Reason::StepNotApplicable);
     }
-    if a.is_same(&b) { None } else { Some(differ) }
+    if !replay(certificate, second, b) {
+        return Some(Reason::StepNotApplicable);
+    }
+    if a.is_same(b) { None } else { Some(differ) }
 }

@@ -75,7 +75,7 @@ module _ (matrix : Design) (compare : Monomial → Monomial → Ordering) (rules
     (fit : AreColumns matrix.rows matrix.columns)
     (valid : AreValid matrix.rows (symbols_of matrix) compare rules) where
   -- the move of a margin-free rule and the table of its right side make that of its left side
-  rule-adds : (k number : ℕ) → slice_get (free_rules matrix.rows rules) k ≡ Some number →
+  pub rule-adds : (k number : ℕ) → slice_get (free_rules matrix.rows rules) k ≡ Some number →
       Adds (drop matrix.rows (right_of rules number)) (move_of matrix.rows (sides_of rules number))
       (drop matrix.rows (left_of rules number))
   rule-adds k number e =

@@ -1,4 +1,6 @@
 pub mod Births
+pub mod ComputedRuns
+pub mod FinishedCertificates
 pub mod FinishedRuns
 pub mod FirstRules
 pub mod FreeMoves
@@ -25,5 +27,6 @@ pub mod RunToReduced
 pub mod SameOutcomes
 pub mod SampleBasis
 pub mod SampleLook
+pub mod SamplePremises
 pub mod Turns
 pub mod ValidMade

@@ -47,7 +47,7 @@ sample_design = record {
 }
 
 -- equal rules that are there
-same_rule : (p q : Rule) → Some p ≡ Some q → p ≡ q
+pub same_rule : (p q : Rule) → Some p ≡ Some q → p ≡ q
 same_rule p q e = cc
 
 -- the left side of a rule of the run
@@ -138,7 +138,7 @@ each P first second (suc zero) rule e = subst P (same_rule (t, y) rule e) second
 each P first second (suc (suc k)) rule e = cc
 
 -- the basis is the reduction of the run
-sample_reduction : IsReduction sample_final sample_basis
+pub sample_reduction : IsReduction sample_final sample_basis
 sample_reduction = record {
   all = λ l m. kept l (m.0).0 (m.0).1 (m.0).2;
   minimal = each (λ (r : Rule). IsMinimalLeft sample_final r.0) x_minimal t_minimal;

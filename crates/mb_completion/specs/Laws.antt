@@ -4,8 +4,10 @@ use Rattle.mb_certificate.specs.Certificate.{Certificate}
 use Rattle.mb_certificate.specs.Valid.{IsValid}
 use Rattle.mb_completion.specs.Basis.{IsReducedBasis}
 use Rattle.mb_completion.specs.Made.{AreNormalJoins, AreNormalStarts, moves_of, paths_of}
+use Rattle.mb_completion.specs.Outcome.{outcome_of}
 use Rattle.mb_completion.specs.Run.{AreLightPeaks, Finished, Outcome, RunEnds}
 use Rattle.mb_matrix.specs.Fiber.{AreColumns, margins}
+use Rattle.mb_matrix.specs.MarkovBasis.{IsMarkovBasis}
 use Rattle.mb_matrix.specs.Matrix.{Design, IsDesign}
 use Rattle.mb_order.specs.Monomial.{Monomial}
 use Rattle.mb_order.specs.Order.{monomial_cmp}
@@ -97,6 +99,20 @@ abbrev pub OneOutcome : Type 0
 OneOutcome =
     (matrix : Design) (order : Order) (pairs : ℕ) (a b : Outcome) → IsDesign matrix →
     RunEnds matrix order pairs a → RunEnds matrix order pairs b → a ≡ b
+
+-- and this end can be computed
+abbrev pub OutcomeIsComputed : Type 0
+OutcomeIsComputed =
+    (matrix : Design) (order : Order) (pairs : ℕ) (end : Outcome) → IsDesign matrix →
+    RunEnds matrix order pairs end ↔ (outcome_of matrix order pairs ≡ end)
+
+-- where a run is finished, its rules make a valid certificate
+abbrev pub FinishedIsCertified : Type 0
+FinishedIsCertified =
+    (matrix : Design) (order : Order) (pairs : ℕ) (final : List Rule) (looks : ℕ) →
+    IsDesign matrix → RunEnds matrix order pairs (Finished final looks) →
+    (c : Certificate) × (c.matrix ≡ matrix) × (c.order ≡ order) × (c.rules ≡ final)
+    × IsValid c × IsMarkovBasis matrix c.moves
 
 -- the parts of a certificate are those that are made of its rules
 pub record IsMade (c : Certificate) : Type 0 where

@@ -3,6 +3,8 @@ pub mod Faults
 pub mod Laws
 pub mod Limits
 pub mod Made
+pub mod Outcome
+pub mod Premises
 pub mod Run
 pub mod SampleRun
 pub mod Start

@@ -3,16 +3,18 @@
 ghost use Rattle.mb_completion.specs.Laws.{
   Completion,
   Corners,
+  FinishedIsCertified,
   FinishedRun,
   LightPeaks,
   MadeIsValid,
   OneForm,
   OneOutcome,
   OneReduced,
+  OutcomeIsComputed,
   Reduced,
   Reduction,
 };
-ghost use Rattle.mb_completion.specs.SampleRun.{SampleBasis, SampleRun};
+ghost use Rattle.mb_completion.specs.SampleRun.{SampleBasis, SampleMeetsPremises, SampleRun};
 
 /// Law: where pairs and starts meet, each monomial leads to the least of its class, and one that
 /// no rule fits is that.
@@ -60,6 +62,16 @@ pub fn one_outcome()
     ensures { OneOutcome }
 {}
 
+/// Law: this end can be computed.
+pub fn outcome_is_computed()
+    ensures { OutcomeIsComputed }
+{}
+
+/// Law: the rules of a finished run make a valid certificate.
+pub fn finished_is_certified()
+    ensures { FinishedIsCertified }
+{}
+
 /// Law: a certificate that is made of the reduced basis is valid.
 pub fn made_is_valid()
     ensures { MadeIsValid }
@@ -73,4 +85,10 @@ pub fn sample_run()
 /// Law: the reduced basis of the worked run's matrix.
 pub fn sample_basis()
     ensures { SampleBasis }
+{}
+
+/// Law: the worked run, its reduced basis and the certificate made of it meet each premise of the
+/// laws above, so none of them is out of reach.
+pub fn sample_meets_premises()
+    ensures { SampleMeetsPremises }
 {}

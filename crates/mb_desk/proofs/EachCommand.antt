@@ -2,12 +2,14 @@
 use Rattle.std.proofs.Common.{List, Ok, subst, ℕ, ◌≡◌}
 use Rattle.mb_desk.proofs.CheckInversions.{checks}
 use Rattle.mb_desk.proofs.Fitting.{Fits, answers_fit, bind_ok}
+use Rattle.mb_desk.proofs.GenerateInversions.{tests}
 use Rattle.mb_desk.proofs.Inversions.{counts_moves}
 use Rattle.mb_desk.proofs.ReachInversions.{finds_rings}
 use Rattle.mb_desk.specs.CheckCommand.{checked, joins_line}
 use Rattle.mb_desk.specs.Commands.{plan_of}
 use Rattle.mb_desk.specs.Decision.{Decided}
-use Rattle.mb_desk.specs.Headline.{Answers, AnswersCheck, AnswersMoves, AnswersReach}
+use Rattle.mb_desk.specs.GenerateCommand.{generated, generated_lines}
+use Rattle.mb_desk.specs.Headline.{Answers, AnswersCheck, AnswersGenerate, AnswersMoves, AnswersReach}
 use Rattle.mb_desk.specs.MovesCommand.{moves_count, moves_line}
 use Rattle.mb_desk.specs.Plans.{answers}
 use Rattle.mb_desk.specs.ReachCommand.{reach_rings}
@@ -29,6 +31,9 @@ plan_fits (requests.Reach words) w answer e =
 plan_fits (requests.Check name) w answer e =
     let a = bind_ok (checked name w.files) (λ c. Ok (answers (joins_line c))) answer e in
     answers_fit w (answers (joins_line a.0)) answer (λ misses. misses) a.2
+plan_fits (requests.Generate seed) w answer e =
+    let a = bind_ok (generated seed) (λ p. Ok (answers (generated_lines seed p))) answer e in
+    answers_fit w (answers (generated_lines seed a.0)) answer (λ misses. misses) a.2
 
 -- the text of a plan that was decided
 text_of : (text : List ℕ) (plan : Plan) → ◌≡◌ {A = Decided Plan} (Ok (answers text)) (Ok plan) →
@@ -50,3 +55,7 @@ plan_means (requests.Check name) w plan e =
     let a = bind_ok (checked name w.files) (λ c. Ok (answers (joins_line c))) plan e in
     subst (λ text. AnswersCheck w.files name text) (text_of (joins_line a.0) plan a.2)
     (checks w.files name a.0 a.1)
+plan_means (requests.Generate seed) w plan e =
+    let a = bind_ok (generated seed) (λ p. Ok (answers (generated_lines seed p))) plan e in
+    subst (λ text. AnswersGenerate seed text) (text_of (generated_lines seed a.0) plan a.2)
+    (tests seed a.0 a.1)

@@ -1,7 +1,10 @@
 pub mod CheckInversions
 pub mod Counts
 pub mod EachCommand
+pub mod FiberTests
 pub mod Fitting
+pub mod GenerateInversions
+pub mod GeneratedNumbers
 pub mod Inversions
 pub mod Making
 pub mod Meanings
@@ -9,6 +12,9 @@ pub mod OptionWords
 pub mod ReachInversions
 pub mod Replaying
 pub mod Replies
+pub mod RingSizes
+pub mod SquareModel
+pub mod TextPieces
 pub mod Told
 pub mod Verdicts
 pub mod WalkStarts

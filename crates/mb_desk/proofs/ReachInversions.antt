@@ -10,7 +10,8 @@ use Rattle.mb_desk.proofs.Fitting.{bind_ok, or_ok}
 use Rattle.mb_desk.proofs.Inversions.{AreJudged, judged_ok, reads_matrix, reads_moves, says}
 use Rattle.mb_desk.proofs.WalkStarts.{IsMade, is_made, made_moves}
 use Rattle.mb_desk.specs.Decision.{or_refusal}
-use Rattle.mb_desk.specs.Headline.{AnswersReach, HasDistances, ReadsMoves, ReadsTable}
+use Rattle.mb_desk.specs.ExactTest.{HasDistances}
+use Rattle.mb_desk.specs.Headline.{AnswersReach, ReadsMoves, ReadsTable}
 use Rattle.mb_desk.specs.Inputs.{accepted, body_of}
 use Rattle.mb_desk.specs.MovesCommand.{judged}
 use Rattle.mb_desk.specs.ReachCommand.{designed, reach_rings, table_of, texts_rings, walk_refusal, walked}

@@ -75,6 +75,9 @@ three_statuses (refusals.Negative row cell) = inl refl
 three_statuses (refusals.EntryTooLarge row cell) = inl refl
 three_statuses (refusals.ZeroColumn cell) = inl refl
 three_statuses (refusals.TooLarge seen) = inr (inl refl)
+three_statuses refusals.TooWide = inr (inl refl)
+three_statuses (refusals.Unfinished looked left) = inr (inl refl)
+three_statuses (refusals.Exponent pair) = inr (inl refl)
 three_statuses (refusals.Unknown kind name) = inr (inr refl)
 three_statuses (refusals.Conflict kind name) = inr (inr refl)
 

@@ -19,3 +19,9 @@ after_same Fact before None (Some after) same fact = absurd fact
 after_same Fact None (Some between) (Some after) same fact = absurd same
 after_same Fact (Some before) (Some between) (Some after) same fact =
     subst (λ b. Fact b after) same fact
+
+-- a fact of whatever is told, where nothing changes
+pub told_by : {A : Type 0} (Fact : A → A → Type 0) (told : Option A) → ((x : A) → Fact x x) →
+    WhereTold told told Fact
+told_by Fact None fact = tt
+told_by Fact (Some x) fact = fact x

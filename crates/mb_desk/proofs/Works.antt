@@ -1,18 +1,19 @@
 -- A plan and then its change: how the work of a request ends.
-use Rattle.std.proofs.Common.{Bool, Err, false, true, List, None, Ok, Option, Some, ap, arith, inl, inr, refl, subst, sym, ℕ, ◌∙◌, ◌≡◌, ◌⊎◌}
+use Rattle.std.proofs.Common.{Bool, Err, false, true, List, None, Ok, Option, Result, Some, ap, arith, inl, inr, refl, subst, sym, ℕ, ◌∙◌, ◌≡◌, ◌⊎◌}
 use Rattle.std.specs.FinMap.{empty}
 use Rattle.mb_desk.proofs.EachCommand.{plan_fits}
 use Rattle.mb_desk.proofs.Making.{Made, Makes, file_blamed, makes}
-use Rattle.mb_desk.proofs.Told.{after_same, weakened}
+use Rattle.mb_desk.proofs.Told.{after_same, told_by, weakened}
 use Rattle.mb_desk.specs.Changes.{ChangesRows, FilesLeft, KeeperLeft, RowsLeft, WritesFile, changed_rows}
 use Rattle.mb_desk.specs.Commands.{needs_of, plan_of}
-use Rattle.mb_desk.specs.Decision.{Decided, Does, HaveCause, HaveStayed, Scene, blames}
+use Rattle.mb_desk.specs.Decision.{Decided, Does, Follows, HaveCause, HaveStayed, Scene, blames}
 use Rattle.mb_desk.specs.Ends.{Commits, EachLeft, Ended, Ends, Leaves, Stays}
-use Rattle.mb_desk.specs.Needs.{Both, FilesAlone, Needs, RowsAlone, Touches, needed, needed_files, needed_rows, told_or}
+use Rattle.mb_desk.specs.Needs.{Both, FilesAlone, Needs, Neither, RowsAlone, Touches, needed, needed_files, needed_rows, told_or}
 use Rattle.mb_desk.specs.World.{World, world_of}
 use Rattle.mb_desk.specs.declared.plans.Change.{Change}
 use Rattle.mb_desk.specs.declared.plans.Change.TheVariants.{Adds, Nothing, Removes, Replaces, Writes}
 use Rattle.mb_desk.specs.declared.plans.Plan.{Plan}
+use Rattle.mb_desk.specs.declared.plans.Stop.{Stop}
 use Rattle.mb_desk.specs.declared.plans.Stop.TheVariants.{Memory, Outside, Refused}
 use Rattle.mb_desk.specs.declared.requests.Request.{Request}
 use Rattle.mb_outside.specs.Causes.{Rose}
@@ -110,6 +111,12 @@ files_needed RowsAlone (Removes kind name) before after made touches left =
 files_needed RowsAlone (Replaces entries) before after made touches left =
     ap (told_or empty) left
 files_needed RowsAlone (Writes file body) before after made touches left = absurd touches
+files_needed Neither Nothing before after made touches left =
+    (ap (told_or empty) left.0, left.1)
+files_needed Neither (Adds kind name body) before after made touches left = absurd touches
+files_needed Neither (Removes kind name) before after made touches left = absurd touches
+files_needed Neither (Replaces entries) before after made touches left = absurd touches
+files_needed Neither (Writes file body) before after made touches left = absurd touches
 
 -- rows that a change doesn't touch are left as it leaves them
 untouched : (change : Change) (rows : Rows) (made : Made) → changed_rows change rows ≡ rows →
@@ -159,6 +166,27 @@ rows_needed FilesAlone (Removes kind name) f0 f1 before after made touches files
     absurd touches
 rows_needed FilesAlone (Replaces entries) f0 f1 before after made touches files left keeper =
     absurd touches
+rows_needed Neither Nothing f0 f1 before after made touches files left keeper =
+    told_untouched Nothing before after made keeper (λ rows. refl)
+    (λ refusal e. absurd (cc (e, files.1)))
+rows_needed Neither (Adds kind name body) f0 f1 before after made touches files left keeper =
+    absurd touches
+rows_needed Neither (Removes kind name) f0 f1 before after made touches files left keeper =
+    absurd touches
+rows_needed Neither (Replaces entries) f0 f1 before after made touches files left keeper =
+    absurd touches
+rows_needed Neither (Writes file body) f0 f1 before after made touches files left keeper =
+    absurd touches
+
+-- what is decided over no world is decided over each
+pub does_alone : {A : Type 0} (s : Scene) (answer : Result A Stop) (decided : Decided A) →
+    Follows answer decided → blames answer ≡ false → Does s s answer (λ w. decided)
+does_alone s answer decided follows own = record {
+  decided = told_by (λ w _. Follows answer decided) (world_of s.files s.rows) (λ w. follows);
+  files = refl;
+  rows = told_by (λ b a. a ≡ b) s.rows (λ rows. refl);
+  cause = subst (λ blamed. HaveCause s s blamed) (sym own) (refl, refl);
+}
 
 -- a plan and its change are the work
 pub committed : (request : Request) (before between after : Scene) (plan : Plan) (made : Made) →
@@ -253,6 +281,7 @@ touches_nothing : (needs : Needs) → Touches needs Nothing
 touches_nothing FilesAlone = tt
 touches_nothing RowsAlone = tt
 touches_nothing Both = tt
+touches_nothing Neither = tt
 
 -- objects that stayed are as no change leaves them
 pub none_left : (needs : Needs) (f0 f1 : Option Held) (r0 r1 : Option Rows) → f1 ≡ f0 →

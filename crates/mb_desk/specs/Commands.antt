@@ -2,8 +2,9 @@
 use Rattle.std.specs.Prelude.{Option, ℕ}
 use Rattle.mb_desk.specs.CheckCommand.{check_plan}
 use Rattle.mb_desk.specs.Decision.{Decided, Scene}
+use Rattle.mb_desk.specs.GenerateCommand.{generate_plan}
 use Rattle.mb_desk.specs.MovesCommand.{moves_plan}
-use Rattle.mb_desk.specs.Needs.{FilesAlone, Needs, needed_files, needed_rows}
+use Rattle.mb_desk.specs.Needs.{FilesAlone, Needs, Neither, needed_files, needed_rows}
 use Rattle.mb_desk.specs.ReachCommand.{reach_plan}
 use Rattle.mb_desk.specs.World.{World}
 use Rattle.mb_desk.specs.declared.plans.Plan.{Plan}
@@ -17,12 +18,14 @@ abbrev pub plan_of : Request → World → Decided Plan
 plan_of (requests.Moves words) w = moves_plan words w.files
 plan_of (requests.Reach words) w = reach_plan words w.files
 plan_of (requests.Check certificate) w = check_plan certificate w.files
+plan_of (requests.Generate seed) w = generate_plan seed
 
 -- what each request needs
 abbrev pub needs_of : Request → Needs
 needs_of (requests.Moves words) = FilesAlone
 needs_of (requests.Reach words) = FilesAlone
 needs_of (requests.Check certificate) = FilesAlone
+needs_of (requests.Generate seed) = Neither
 
 -- what is seen for a request, from its parts
 abbrev pub scene_for : Request → Option Held → ℕ → Option Rows → ℕ → Scene

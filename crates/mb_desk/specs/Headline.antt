@@ -1,17 +1,19 @@
 -- What an answer of the desk means, in the words of the field.
 use Rattle.std.specs.FinMap.{get}
-use Rattle.std.specs.Prelude.{All, List, Ok, Some, [], length, map, pos, slice_get, sum, ℕ, ℤ, ◌↔◌, ◌∷◌, ◌≡◌, ◌≤◌}
+use Rattle.std.specs.Prelude.{All, List, Ok, Some, [], length, map, pos, sum, ℕ, ◌↔◌, ◌∷◌, ◌≡◌, ◌≤◌}
 use Rattle.mb_certificate.specs.Certificate.{AreParts, Certificate}
 use Rattle.mb_certificate.specs.Valid.{IsValid}
 use Rattle.mb_certificate.specs.Written.{text_of}
 use Rattle.mb_desk.specs.CheckCommand.{joins_line}
+use Rattle.mb_desk.specs.ExactTest.{HasDistances, IsExactTest}
+use Rattle.mb_desk.specs.GenerateCommand.{seed_table, square_matrix, square_measure, test_lines}
 use Rattle.mb_desk.specs.MovesCommand.{moves_line}
 use Rattle.mb_desk.specs.World.{World}
 use Rattle.mb_desk.specs.declared.requests.MovesWords.{MovesWords}
 use Rattle.mb_desk.specs.declared.requests.ReachWords.{ReachWords}
 use Rattle.mb_desk.specs.declared.requests.Request.{Request}
 use Rattle.mb_desk.specs.declared.requests.Request.TheVariants as requests
-use Rattle.mb_matrix.specs.Matrix.{IsDesign, design_of}
+use Rattle.mb_matrix.specs.Matrix.{IsDesign, design_of, fiber_of}
 use Rattle.mb_matrix.specs.MarkovBasis.{IsMarkovBasis}
 use Rattle.mb_moves.specs.GridText.{matrix_of, moves_of}
 use Rattle.mb_outside.specs.Files.{Held}
@@ -20,8 +22,9 @@ use Rattle.mb_tables.specs.Chain.{Joined}
 use Rattle.mb_tables.specs.Limits.{largest_total}
 use Rattle.mb_tables.specs.Lists.{In}
 use Rattle.mb_tables.specs.Rows.{IsMoveOf, Rows}
-use Rattle.mb_walk.specs.Distance.{IsAtDistance}
 use Rattle.mb_walk.specs.Ring.{Ring, tables_of}
+use Rattle.mb_walk.specs.Walk.{most_tables}
+use Rattle.mb_weights.specs.PValue.{Fraction}
 
 -- ---- what a named file reads as
 
@@ -56,12 +59,6 @@ pub record AnswersMoves (held : Held) (words : MovesWords) (answer : List ℕ) :
   pub each : All (IsMoveOf matrix.rows) moves.rows
   pub printed : answer ≡ moves_line (length moves.rows)
 
--- ring k has the tables at distance k from the start in the fiber graph, and no others
-abbrev pub HasDistances : List (List ℤ) → List ℕ → List Ring → Type 0
-HasDistances moves start rings =
-    (k : ℕ) (ring : Ring) → slice_get rings k ≡ Some ring →
-    (v : List ℕ) → In v ring ↔ IsAtDistance moves start k v
-
 -- `reach`: the first file is a design matrix, each row of the second is a move of it, and the third
 -- is a table; ring k has the tables at distance k from it; exactly the tables that the moves join to
 -- it are printed, ring by ring, and they are no more than the limit
@@ -91,8 +88,23 @@ pub record AnswersCheck (held : Held) (name answer : List ℕ) : Type 0 where
   pub basis : IsMarkovBasis certificate.matrix certificate.moves
   pub printed : answer ≡ joins_line certificate
 
+-- `generate`: under independence, the exact test of the 4 x 4 table of the seed by the moves of some
+-- valid certificate; the table is printed, how many tables its fiber has, and its exact p-value
+pub record AnswersGenerate (seed : ℕ) (answer : List ℕ) : Type 0 where
+  pub certificate : Certificate
+  pub rings : List Ring
+  pub fraction : Fraction
+  pub matrix : certificate.matrix ≡ square_matrix
+  pub valid : IsValid certificate
+  pub test : IsExactTest square_matrix certificate.moves square_measure (seed_table seed) rings
+      fraction
+  pub few : length (fiber_of square_matrix (seed_table seed)) ≤ most_tables
+  pub printed : answer ≡ test_lines (seed_table seed)
+      (length (fiber_of square_matrix (seed_table seed))) fraction
+
 -- the answer is that of the request
 abbrev pub Answers : Request → World → List ℕ → Type 0
 Answers (requests.Moves words) w answer = AnswersMoves w.files words answer
 Answers (requests.Reach words) w answer = AnswersReach w.files words answer
 Answers (requests.Check certificate) w answer = AnswersCheck w.files certificate answer
+Answers (requests.Generate seed) w answer = AnswersGenerate seed answer

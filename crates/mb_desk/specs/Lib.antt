@@ -5,7 +5,10 @@ pub mod Commands
 pub mod Completes
 pub mod Decision
 pub mod Ends
+pub mod ExactTest
+pub mod GenerateCommand
 pub mod Headline
+pub mod Independence
 pub mod Inputs
 pub mod Kinds
 pub mod Limits

@@ -9,6 +9,10 @@ largest_limit = 100000
 abbrev pub longest_word : ℕ
 longest_word = 4096
 
+-- the greatest seed of `generate`, 3^16 - 1: sixteen digits of 2 in base 3
+abbrev pub largest_seed : ℕ
+largest_seed = 43046720
+
 -- a limit of `reach`
 pub record IsLimit (tables : ℕ) : Type 0 where
   pub some : 1 ≤ tables

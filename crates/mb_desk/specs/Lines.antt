@@ -22,6 +22,10 @@ text key value = record { key = key; value = value }
 abbrev pub number : List ℕ → ℕ → Shown
 number key value = text key (decimal value)
 
+-- two numbers under a key, with a space between them
+abbrev pub numbers : List ℕ → ℕ × ℕ → Shown
+numbers key pair = text key (decimal pair.0 ++ (32 ∷ decimal pair.1))
+
 -- a space, the key, a space, the value
 abbrev pub field_text : Shown → List ℕ
 field_text field = 32 ∷ field.key ++ (32 ∷ field.value)

@@ -7,11 +7,12 @@ use Rattle.mb_desk.specs.declared.plans.Change.TheVariants.{Adds, Nothing, Remov
 use Rattle.mb_outside.specs.Files.{Held}
 use Rattle.mb_outside.specs.Rows.{Rows}
 
--- the files alone, the rows alone, or both
+-- the files alone, the rows alone, both, or neither
 pub data Needs : Type 0 where
   FilesAlone : Needs
   RowsAlone : Needs
   Both : Needs
+  Neither : Needs
 
 -- what is told, or else this
 abbrev pub told_or : {A : Type 0} → A → Option A → Option A
@@ -23,12 +24,14 @@ abbrev pub needed_files : Needs → Option Held → Option Held
 needed_files FilesAlone files = files
 needed_files RowsAlone files = told_or empty files
 needed_files Both files = files
+needed_files Neither files = told_or empty files
 
 -- and so are rows
 abbrev pub needed_rows : Needs → Option Rows → Option Rows
 needed_rows FilesAlone rows = told_or empty rows
 needed_rows RowsAlone rows = rows
 needed_rows Both rows = rows
+needed_rows Neither rows = told_or empty rows
 
 -- what is seen for a request
 abbrev pub needed : Needs → Scene → Scene
@@ -52,3 +55,8 @@ Touches RowsAlone (Adds kind name body) = Unit {0}
 Touches RowsAlone (Removes kind name) = Unit {0}
 Touches RowsAlone (Replaces entries) = Unit {0}
 Touches RowsAlone (Writes file body) = ⊥
+Touches Neither Nothing = Unit {0}
+Touches Neither (Adds kind name body) = ⊥
+Touches Neither (Removes kind name) = ⊥
+Touches Neither (Replaces entries) = ⊥
+Touches Neither (Writes file body) = ⊥

@@ -1,11 +1,11 @@
 -- The status and the one line of each refusal.
 use Rattle.std.specs.Prelude.{List, [], codes, ℕ, ◌∷◌}
 use Rattle.mb_desk.specs.Kinds.{kind_word}
-use Rattle.mb_desk.specs.Lines.{Shown, line_of, number, text}
+use Rattle.mb_desk.specs.Lines.{Shown, line_of, number, numbers, text}
 use Rattle.mb_desk.specs.Reasons.{reason_word}
 use Rattle.mb_desk.specs.declared.kinds.Kind.{Kind}
 use Rattle.mb_desk.specs.declared.refusals.Refusal.{Refusal}
-use Rattle.mb_desk.specs.declared.refusals.Refusal.TheVariants.{BadNumber, Certificate, Conflict, EntryTooLarge, Negative, NoFile, NoSize, NotAMove, NotATable, Text, TooFew, TooLarge, TooLong, TooMany, TooManyCells, TooManyMargins, TooWideNumber, Unknown, WidthDiffers, ZeroColumn}
+use Rattle.mb_desk.specs.declared.refusals.Refusal.TheVariants.{BadNumber, Certificate, Conflict, EntryTooLarge, Exponent, Negative, NoFile, NoSize, NotAMove, NotATable, Text, TooFew, TooLarge, TooLong, TooMany, TooManyCells, TooManyMargins, TooWide, TooWideNumber, Unfinished, Unknown, WidthDiffers, ZeroColumn}
 use Rattle.mb_desk.specs.declared.status.Status.{Status}
 use Rattle.mb_desk.specs.declared.status.Status.TheVariants as statuses
 
@@ -13,6 +13,9 @@ use Rattle.mb_desk.specs.declared.status.Status.TheVariants as statuses
 abbrev pub status_of : Refusal → Status
 status_of (TooLong file) = statuses.Limit
 status_of (TooLarge seen) = statuses.Limit
+status_of TooWide = statuses.Limit
+status_of (Unfinished looked left) = statuses.Limit
+status_of (Exponent pair) = statuses.Limit
 status_of (Unknown kind name) = statuses.Registry
 status_of (Conflict kind name) = statuses.Registry
 status_of _ = statuses.Refused
@@ -37,6 +40,9 @@ name_of (Negative row cell) = codes "Negative"
 name_of (EntryTooLarge row cell) = codes "EntryTooLarge"
 name_of (ZeroColumn cell) = codes "ZeroColumn"
 name_of (TooLarge seen) = codes "TooLarge"
+name_of TooWide = codes "TooWide"
+name_of (Unfinished looked left) = codes "Unfinished"
+name_of (Exponent pair) = codes "Exponent"
 name_of (Unknown kind name) = codes "Unknown"
 name_of (Conflict kind name) = codes "Conflict"
 
@@ -79,6 +85,10 @@ fields_of (Negative row cell) = place_fields row cell
 fields_of (EntryTooLarge row cell) = place_fields row cell
 fields_of (ZeroColumn cell) = number (codes "cell") cell ∷ []
 fields_of (TooLarge seen) = number (codes "seen") seen ∷ []
+fields_of TooWide = []
+fields_of (Unfinished looked left) =
+    number (codes "looked") looked ∷ numbers (codes "left") left ∷ []
+fields_of (Exponent pair) = numbers (codes "pair") pair ∷ []
 fields_of (Unknown kind name) = record_fields kind name
 fields_of (Conflict kind name) = record_fields kind name
 

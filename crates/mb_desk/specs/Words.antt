@@ -3,9 +3,9 @@ use Rattle.std.specs.List.{list_any}
 use Rattle.std.specs.Prelude.{Bool, List, None, Option, Some, String, [], codes, false, if◌then◌else◌, length, map, nat_eq, nat_le, not, option_map, string_bytes, true, ℕ, ◌&&◌, ◌++◌, ◌∷◌}
 use Rattle.std.specs.Str.{bytes_eq}
 use Rattle.std.specs.declared.alloc.Global.{Global}
-use Rattle.mb_desk.specs.Limits.{largest_limit, longest_word}
+use Rattle.mb_desk.specs.Limits.{largest_limit, largest_seed, longest_word}
 use Rattle.mb_desk.specs.declared.requests.Request.{Request}
-use Rattle.mb_desk.specs.declared.requests.Request.TheVariants.{Check, Moves, Reach}
+use Rattle.mb_desk.specs.declared.requests.Request.TheVariants.{Check, Generate, Moves, Reach}
 use Rattle.mb_text.specs.Plain.{at_most, plain_of}
 
 -- the bytes of each word
@@ -85,6 +85,11 @@ abbrev pub check_of_values : List Value → Option Request
 check_of_values (Text certificate ∷ []) = Some (Check certificate)
 check_of_values _ = None
 
+-- and that of `generate`
+abbrev pub generate_of_values : List Value → Option Request
+generate_of_values (Count seed ∷ []) = Some (Generate seed)
+generate_of_values _ = None
+
 -- a row of the table
 abbrev pub command : List ℕ → List Form → List Choice → (List Value → Option Request) → Command
 command word forms choices makes =
@@ -103,9 +108,13 @@ reach_command =
 abbrev pub check_command : Command
 check_command = command (codes "check") (File ∷ []) [] check_of_values
 
+-- `generate SEED`, a number up to 43,046,720
+abbrev pub generate_command : Command
+generate_command = command (codes "generate") (Number 0 largest_seed ∷ []) [] generate_of_values
+
 -- the table
 abbrev pub commands : List Command
-commands = moves_command ∷ reach_command ∷ check_command ∷ []
+commands = moves_command ∷ reach_command ∷ check_command ∷ generate_command ∷ []
 
 -- ---- the reader
 

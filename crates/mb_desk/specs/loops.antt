@@ -1,1 +1,2 @@
 pub mod OptionsSoFar
+pub mod SquareEntries

@@ -4,6 +4,8 @@
 
 mod commands;
 mod commit;
+mod exact_test;
+mod independence;
 mod judging;
 mod kinds;
 mod laws;
@@ -22,6 +24,7 @@ mod top;
 mod words;
 mod work;
 
+pub use exact_test::{Figures, NumbersFault, numbers};
 pub use kinds::Kind;
 pub use laws::{calls_are_replayed, repeats_alike};
 pub use plans::{Change, Plan, Stop};

@@ -1,6 +1,6 @@
 //! The one line of a refusal.
 ghost use Rattle.std.specs.Prelude.{◌≡◌, ◌++◌, IfOk, OnOk, codes, string_bytes};
-ghost use Rattle.mb_desk.specs.Lines.{field_text, line_of, number, text};
+ghost use Rattle.mb_desk.specs.Lines.{field_text, line_of, number, numbers, text};
 ghost use Rattle.mb_desk.specs.Refusals.{at_line};
 
 use crate::texts::Body;
@@ -11,6 +11,7 @@ use std::marker::Model;
 #[derive(Clone, Copy)]
 enum Value<'a> {
     Number(u64),
+    Pair(u32, u32),
     Text(&'a str),
 }
 
@@ -39,6 +40,16 @@ pub fn number(key: &str, value: u32) -> Field<'_>
     Field {
         key,
         value: Value::Number(u64::from(value)),
+    }
+}
+
+/// Two numbers under a key.
+pub fn numbers(key: &str, pair: (u32, u32)) -> Field<'_>
+    ensures { result ≡ numbers key.now pair }
+{
+    Field {
+        key,
+        value: Value::Pair(pair.0, pair.1),
     }
 }
 
@@ -73,6 +84,9 @@ impl<'a> Field<'a> {
         line.push_str(" ")?;
         match self.value {
             Value::Number(number) => line.push_str(format!(in alloc; "{number}")?.as_str()),
+            Value::Pair(first, second) => {
+                line.push_str(format!(in alloc; "{first} {second}")?.as_str())
+            }
             Value::Text(text) => line.push_str(text),
         }
     }

@@ -4,7 +4,7 @@ ghost use Rattle.mb_desk.specs.Lines.{line_of};
 ghost use Rattle.mb_desk.specs.Refusals.{name_of, record_fields, refusal_line, status_of};
 
 use crate::kinds::Kind;
-use crate::lines::{Field, line_number, number, refused, text};
+use crate::lines::{Field, line_number, number, numbers, refused, text};
 use crate::reasons::reason_word;
 use crate::status::Status;
 use crate::texts::{Body, Text};
@@ -14,7 +14,7 @@ use std::alloc::{AllocError, Global};
 /// Why a request is refused. Each comes exactly where the decision says so: want of memory and
 /// faults of the outside are no refusals. The file words of a command count from 1, tokens of a
 /// file from 1 with the two sizes included, rows of a move file and lines of a text from 1, and rows
-/// and cells of a matrix from 0.
+/// and cells of a matrix and rules of a completion from 0.
 #[derive(Drop)]
 pub enum Refusal {
     /// There is no such file.
@@ -54,6 +54,12 @@ pub enum Refusal {
     ZeroColumn { cell: u32 },
     /// More tables than the limit are reached; so many were seen, the limit and one more.
     TooLarge { seen: u32 },
+    /// The weights of the tables add up to 2^128 or more.
+    TooWide,
+    /// So many critical pairs, all that are allowed, were looked at, and this pair comes next.
+    Unfinished { looked: u32, left: (u32, u32) },
+    /// The peak of this pair, which comes next, weighs more than 65,535 on some margin.
+    Exponent { pair: (u32, u32) },
     /// There is no record of this kind and name.
     Unknown { kind: Kind, name: Text },
     /// The record of this kind and name is there, with another body.
@@ -69,6 +75,9 @@ impl Refusal {
         match self {
             Refusal::TooLong { .. } => Status::Limit,
             Refusal::TooLarge { .. } => Status::Limit,
+            Refusal::TooWide => Status::Limit,
+            Refusal::Unfinished { .. } => Status::Limit,
+            Refusal::Exponent { .. } => Status::Limit,
             Refusal::Unknown { .. } => Status::Registry,
             Refusal::Conflict { .. } => Status::Registry,
             _ => Status::Refused,
@@ -98,6 +107,9 @@ impl Refusal {
             Refusal::EntryTooLarge { .. } => "EntryTooLarge",
             Refusal::ZeroColumn { .. } => "ZeroColumn",
             Refusal::TooLarge { .. } => "TooLarge",
+            Refusal::TooWide => "TooWide",
+            Refusal::Unfinished { .. } => "Unfinished",
+            Refusal::Exponent { .. } => "Exponent",
             Refusal::Unknown { .. } => "Unknown",
             Refusal::Conflict { .. } => "Conflict",
         }
@@ -137,12 +149,18 @@ impl Refusal {
                 self.with(alloc, &[number("matrix", *matrix), number("moves", *moves)])
             }
             Refusal::NotAMove { row } => self.with(alloc, &[number("row", *row)]),
-            Refusal::TooManyCells | Refusal::TooManyMargins => self.with(alloc, &[]),
+            Refusal::TooManyCells | Refusal::TooManyMargins | Refusal::TooWide => {
+                self.with(alloc, &[])
+            }
             Refusal::Negative { row, cell } | Refusal::EntryTooLarge { row, cell } => {
                 self.with(alloc, &[number("row", *row), number("cell", *cell)])
             }
             Refusal::ZeroColumn { cell } => self.with(alloc, &[number("cell", *cell)]),
             Refusal::TooLarge { seen } => self.with(alloc, &[number("seen", *seen)]),
+            Refusal::Unfinished { looked, left } => {
+                self.with(alloc, &[number("looked", *looked), numbers("left", *left)])
+            }
+            Refusal::Exponent { pair } => self.with(alloc, &[numbers("pair", *pair)]),
             Refusal::Unknown { kind, name } | Refusal::Conflict { kind, name } => {
                 self.with(alloc, &record_fields(*kind, name))
             }

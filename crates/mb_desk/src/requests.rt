@@ -9,6 +9,9 @@ use std::marker::Model;
 /// The greatest limit of `reach`, which is also the one where none is given.
 pub const LARGEST_LIMIT: u32 = 100_000;
 
+/// The greatest seed of `generate`, 3^16 - 1.
+pub const LARGEST_SEED: u32 = 43_046_720;
+
 /// The most tables that may be reached, 1 to 100,000.
 #[derive(Drop)]
 pub struct Limit {
@@ -77,4 +80,6 @@ pub enum Request<'a> {
     Reach(ReachWords<'a>),
     /// `check CERTIFICATE`, the name of a file.
     Check { certificate: Word<'a> },
+    /// `generate SEED`, a number up to 43,046,720.
+    Generate { seed: u32 },
 }

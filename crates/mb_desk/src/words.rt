@@ -3,9 +3,9 @@ ghost use Rattle.std.specs.List.{list_any};
 ghost use Rattle.std.specs.Prelude.{◌≡◌, ◌≤◌, ◌<◌, ◌∷◌, ◌+◌, ◌++◌, IfSome, MatchOption, None, map, option_map, length};
 ghost use Rattle.std.specs.Str.{bytes_eq};
 ghost use Rattle.mb_desk.specs.loops.OptionsSoFar.{values_so_far};
-ghost use Rattle.mb_desk.specs.Words.{Count, are_options, at_most_one, check_command, chosen, given, given_by, is_file, limit_choice, moves_command, number_choice, number_within, reach_command, read_command, request_of, texts};
+ghost use Rattle.mb_desk.specs.Words.{Count, are_options, at_most_one, check_command, chosen, generate_command, given, given_by, is_file, limit_choice, moves_command, number_choice, number_within, reach_command, read_command, request_of, texts};
 
-use crate::requests::{LARGEST_LIMIT, Limit, MovesWords, ReachWords, Request};
+use crate::requests::{LARGEST_LIMIT, LARGEST_SEED, Limit, MovesWords, ReachWords, Request};
 use crate::texts::Word;
 use mb_text::plain_number;
 
@@ -203,6 +203,20 @@ fn read_check(words: &[String]) -> Option<Request<'_>>
     })
 }
 
+/// `generate SEED`.
+fn read_generate(words: &[String]) -> Option<Request<'_>>
+    ensures { result ≡ read_command generate_command (texts words.now) }
+{
+    let [seed, options @ ..] = words else {
+        return None;
+    };
+    let seed = read_number(seed.as_str(), 0, LARGEST_SEED)?;
+    if !are_options(options, &[]) {
+        return None;
+    }
+    Some(Request::Generate { seed })
+}
+
 /// The request of the words, where they are one: the command, its positional words in order, then
 /// its options in any order.
 pub fn read_words(words: &[String]) -> Option<Request<'_>>
@@ -218,6 +232,9 @@ pub fn read_words(words: &[String]) -> Option<Request<'_>>
     }
     if command == "check" {
         return read_check(words);
+    }
+    if command == "generate" {
+        return read_generate(words);
     }
     None
 }

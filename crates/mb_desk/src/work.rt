@@ -7,7 +7,7 @@ ghost use Rattle.mb_desk.specs.Needs.{Touches};
 ghost use Rattle.mb_desk.specs.declared.plans.Stop.{Stop as Stops};
 ghost use Rattle.mb_outside.specs.Told.{WhereTold};
 
-use crate::commands::{check, moves, reach};
+use crate::commands::{check, generate, moves, reach};
 use crate::commit::commit;
 use crate::plans::{Plan, Stop};
 use crate::requests::Request;
@@ -40,6 +40,7 @@ fn plan<'a, R: Threads + Sync, F: Files, K: Keeper, G: Gate + Sync>(
         Request::Moves(words) => moves::plan(alloc, files, words),
         Request::Reach(words) => reach::plan(rt, alloc, files, words, gate),
         Request::Check { certificate } => check::plan(alloc, files, certificate),
+        Request::Generate { seed } => generate::plan(rt, alloc, *seed, gate),
     }
 }
 

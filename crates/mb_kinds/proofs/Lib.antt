@@ -1,11 +1,8 @@
 pub mod Chains
 pub mod Genotypes
 pub mod Levels
-pub mod LineItems
-pub mod NameBytes
 pub mod NumberItems
 pub mod PairsOfThree
-pub mod PieceCases
 pub mod PlacesLeft
 pub mod Placing
 pub mod RangeSteps

@@ -7,81 +7,23 @@ use Rattle.std.specs.Fmt.{decimal, signed_decimal}
 use Rattle.std.specs.List.{join_with_byte, list_all}
 use Rattle.std.specs.Option.{is_none, option_and_then, option_map}
 use Rattle.std.specs.Str.{bytes_eq}
-use Rattle.mb_kinds.proofs.LineItems.{LineRead, items_again, line_joined}
-use Rattle.mb_kinds.proofs.NumberItems.{entries_read, numbers_read}
-use Rattle.mb_kinds.specs.Name.{is_name}
+use Rattle.mb_kinds.proofs.NumberItems.{entries_read}
 use Rattle.mb_kinds.specs.Record.{base_items, scale_items}
-use Rattle.mb_kinds.specs.RecordText.{after, as_many, base_in, dataset_in, ends, exactly, fixed_by, is_design_entry, numbers_after, numbers_of, only_name, row_in, scale_in, scheme_in, sizes_in, two_sizes, whole_row}
+use Rattle.mb_kinds.specs.RecordText.{as_many, base_in, dataset_in, fixed_by, is_design_entry, row_in, scale_in, scheme_in, sizes_in, two_sizes, whole_row}
 use Rattle.mb_matrix.specs.Faults.{is_size}
 use Rattle.mb_matrix.specs.Matrix.{Design}
 use Rattle.mb_matrix.specs.Measure.{RowMargins, Scheme, Total, scale_fault}
-use Rattle.mb_text.specs.Lines.{items, line}
-
--- a value of two readings, one after the other
-and_then_read : {A B : Type 0} (first : Option A) (next : A → Option B) (y : B) →
-    option_and_then next first ≡ Some y → (x : A) × (first ≡ Some x) × (next x ≡ Some y)
-and_then_read None next y e = absurd cc
-and_then_read (Some x) next y e = (x, refl, e)
-
--- a value that was let through is the one that was tested
-let_through : {A : Type 0} (t : Bool) (x y : A) → cond t (Some x) None ≡ Some y →
-    (t ≡ true) × (x ≡ y)
-let_through true x y e = (refl, cc)
-let_through false x y e = absurd cc
-
--- a line of these items
-pub line_is : {A : Type 0} {read : List ℕ → Option A} {pieces : List (List ℕ)} {x : A}
-    {rest : List (List ℕ)} (found : LineRead read pieces x rest) (list : List (List ℕ)) →
-    items found.first ≡ list →
-    join_with_byte 10 pieces ≡ line list ++ join_with_byte 10 rest
-line_is {rest = rest} found list e =
-    found.joined ∙ line_joined found.first list (join_with_byte 10 rest) e
-
--- a line that is exactly a text
-pub exactly_read : (text line : List ℕ) (x : Unit {0}) → exactly text line ≡ Some x → line ≡ text
-exactly_read text line x e =
-    (bytes_eq-Decides line text).0 (let_through (bytes_eq line text) tt x e).0
-
--- items after a word
-after_read : (word : List ℕ) (list others : List (List ℕ)) → after word list ≡ Some others →
-    list ≡ word ∷ others
-after_read word [] others e = absurd cc
-after_read word (first ∷ []) others e = absurd cc
-after_read word (first ∷ item ∷ more) others e =
-    let passed = let_through (bytes_eq first word) (item ∷ more) others e in
-    ap (λ w. w ∷ item ∷ more) ((bytes_eq-Decides first word).0 passed.0)
-    ∙ ap (λ l. word ∷ l) passed.1
-
--- an only name
-only_name_read : (list : List (List ℕ)) (name : List ℕ) → only_name list ≡ Some name →
-    (list ≡ name ∷ []) × (is_name name ≡ true)
-only_name_read [] name e = absurd cc
-only_name_read (item ∷ next ∷ others) name e = absurd cc
-only_name_read (item ∷ []) name e =
-    let passed = let_through (is_name item) item name e in
-    (ap (λ i. i ∷ []) passed.1, sym (ap is_name passed.1) ∙ passed.0)
+use Rattle.mb_text.proofs.ItemBytes.{items_again}
+use Rattle.mb_text.proofs.LineReaders.{after_read, and_then_read, name_reads, numbers_after_read}
+use Rattle.mb_text.proofs.NumeralItems.{let_through}
+use Rattle.mb_text.specs.LineForms.{after, numbers_after}
+use Rattle.mb_text.specs.Lines.{items}
+use Rattle.mb_text.specs.Name.{IsName}
 
 -- the line of the dataset
 pub dataset_read : (first name : List ℕ) → dataset_in first ≡ Some name →
-    (items first ≡ codes "dataset" ∷ name ∷ []) × (is_name name ≡ true)
-dataset_read first name e =
-    let step = and_then_read (after (codes "dataset") (items first)) only_name name e in
-    let named = only_name_read step.0 name step.2 in (
-      after_read (codes "dataset") (items first) step.0 step.1
-          ∙ ap (λ l. codes "dataset" ∷ l) named.0,
-      named.1,
-    )
-
--- numbers after a word
-numbers_after_read : (word : List ℕ) (list : List (List ℕ)) (numbers : List ℕ) →
-    numbers_after word list ≡ Some numbers →
-    (list ≡ word ∷ map decimal numbers) × All (λ n. n < 2 ^ 32) numbers
-numbers_after_read word list numbers e =
-    let step = and_then_read (after word list) numbers_of numbers e in
-    let found = numbers_read step.0 numbers step.2 in (
-      after_read word list step.0 step.1 ∙ ap (λ l. word ∷ l) found.0,
-      All-from_recursion (λ n. n < 2 ^ 32) numbers found.1,
-    )
+    (items first ≡ codes "dataset" ∷ name ∷ []) × IsName name
+dataset_read first name e = (name_reads (codes "dataset") refl).is_written first name e
 
 -- two sizes
 two_sizes_read : (numbers : List ℕ) (sizes : ℕ × ℕ) → two_sizes numbers ≡ Some sizes →
@@ -171,13 +113,5 @@ base_read cells first bases e =
     let found = numbers_after_read (codes "base") (items first) step.0 step.1 in (
       found.0 ∙ ap base_items passed.1,
       sym (ap length passed.1) ∙ eqb-true (length step.0) cells passed.0,
-      subst (λ list. All (λ n. n < 2 ^ 32) list) passed.1 found.1,
+      subst (λ list. All (λ n. n < 2 ^ 32) list) passed.1 found.1.small,
     )
-
--- the end of a text
-pub ends_read : (number : ℕ) (pieces : List (List ℕ)) (x : Unit {0}) → ends number pieces ≡ Ok x →
-    pieces ≡ [] ∷ []
-ends_read number [] x e = absurd cc
-ends_read number ([] ∷ []) x e = refl
-ends_read number ([] ∷ (next ∷ others)) x e = absurd cc
-ends_read number ((b ∷ line) ∷ others) x e = absurd cc

@@ -5,13 +5,12 @@ use Rattle.std.proofs.lemmas.List.Splits.{join_with_byte-slice_split}
 use Rattle.std.proofs.lemmas.Simd.{map-map}
 use Rattle.std.specs.Fmt.{decimal, signed_decimal}
 use Rattle.std.specs.List.{AllByRecursion, flat_map, join_with_byte, range_with_len}
-use Rattle.mb_kinds.proofs.LineItems.{items_again, says_read}
-use Rattle.mb_kinds.proofs.ReadLines.{base_read, dataset_read, ends_read, exactly_read, line_is, row_read_back, scale_read, sizes_read}
-use Rattle.mb_kinds.proofs.RecordSteps.{accepted_at, stepped, with_base, with_dataset, with_last, with_matrix, with_measure, with_rows, with_scale, with_sizes, with_version}
+use Rattle.mb_kinds.proofs.ReadLines.{base_read, dataset_read, row_read_back, scale_read, sizes_read}
+use Rattle.mb_kinds.proofs.RecordSteps.{accepted_at, with_base, with_dataset, with_last, with_matrix, with_measure, with_rows, with_scale, with_sizes, with_version}
 use Rattle.mb_kinds.proofs.WrittenTexts.{text_is}
 use Rattle.mb_kinds.specs.Model.{IsModel, ModelValue}
 use Rattle.mb_kinds.specs.Record.{IsModelRecord, ModelRecord, base_items, row_lines, scale_items, written_record}
-use Rattle.mb_kinds.specs.RecordText.{base_in, dataset_in, ends, exactly, measure_in, model_in, or_line, record_of, row_in, rows_in as rows_from, says, scale_in, sizes_in}
+use Rattle.mb_kinds.specs.RecordText.{base_in, dataset_in, measure_in, model_in, or_line, record_of, row_in, rows_in as rows_from, scale_in, sizes_in}
 use Rattle.mb_matrix.proofs.NoFault.{accepted, no_fault}
 use Rattle.mb_matrix.proofs.RowsAndColumns.{length-columns, rows-design_of, rows_in-design_of}
 use Rattle.mb_matrix.specs.Faults.{matrix_of}
@@ -21,7 +20,13 @@ use Rattle.mb_matrix.specs.declared.measure_fault.MeasureFault.{MeasureFault}
 use Rattle.mb_moves.proofs.RowsEndToEnd.{end_to_end, rows_of-end_to_end}
 use Rattle.mb_tables.specs.Answers.{◌>>=◌}
 use Rattle.mb_tables.specs.Rows.{Rows, array_of, rows_of}
+use Rattle.mb_text.proofs.ItemBytes.{items_again}
+use Rattle.mb_text.proofs.LineReaders.{exactly_read}
+use Rattle.mb_text.proofs.RecordSteps.{stepped}
+use Rattle.mb_text.proofs.SaidLines.{ends_read, line_is, says_read}
+use Rattle.mb_text.specs.LineForms.{exactly}
 use Rattle.mb_text.specs.Lines.{items, line, lines}
+use Rattle.mb_text.specs.RecordLines.{ends, says}
 
 -- rows that were read
 record RowsRead (cells count : ℕ) (pieces : List (List ℕ)) (entries : List ℤ)

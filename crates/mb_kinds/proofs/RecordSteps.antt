@@ -1,25 +1,16 @@
 -- The steps of reading a record, one after the other.
-use Rattle.std.proofs.Common.{Err, List, Ok, Result, ap, refl, ℕ, ℤ, ◌+◌, ◌-◌, ◌∙◌, ◌≡◌}
+use Rattle.std.proofs.Common.{Err, List, Ok, Result, ap, ℕ, ℤ, ◌+◌, ◌-◌, ◌≡◌}
 use Rattle.mb_kinds.specs.Model.{ModelValue}
 use Rattle.mb_kinds.specs.Record.{ModelRecord}
-use Rattle.mb_kinds.specs.RecordText.{base_in, dataset_in, ends, exactly, measure_in, model_in, or_line, says, sizes_in}
+use Rattle.mb_kinds.specs.RecordText.{base_in, dataset_in, measure_in, model_in, or_line, sizes_in}
 use Rattle.std.specs.Prelude.{codes, length}
 use Rattle.mb_matrix.specs.Faults.{matrix_of}
 use Rattle.mb_matrix.specs.Matrix.{Design}
 use Rattle.mb_matrix.specs.Measure.{Scheme, Weighting, measure_of}
 use Rattle.mb_tables.specs.Answers.{◌>>=◌}
 use Rattle.mb_tables.specs.Rows.{array_of}
-
--- a step that goes on, and what comes then
-pub step_on : {A B : Type 0} (step : Result A ℕ) (x : A) (next : A → Result B ℕ) (z : Result B ℕ) →
-    step ≡ Ok x → next x ≡ z → (step >>= next) ≡ z
-step_on step x next z e f = ap (λ (r : Result _ ℕ). r >>= next) e ∙ f
-
--- where all goes on, a step did, and what comes then does
-pub stepped : {A B : Type 0} (step : Result A ℕ) (next : A → Result B ℕ) (z : B) →
-    (step >>= next) ≡ Ok z → (x : A) × (step ≡ Ok x) × (next x ≡ Ok z)
-stepped (Ok x) next z e = (x, refl, e)
-stepped (Err number) next z e = absurd cc
+use Rattle.mb_text.specs.LineForms.{exactly}
+use Rattle.mb_text.specs.RecordLines.{ends, says}
 
 -- what is refused at a line goes on only where it is accepted
 pub accepted_at : {A F : Type 0} (number : ℕ) (r : Result A F) (x : A) → or_line number r ≡ Ok x →

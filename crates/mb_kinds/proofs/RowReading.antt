@@ -1,7 +1,8 @@
 -- Rows of a record text, read one after the other.
 use Rattle.std.proofs.Common.{Err, List, None, Ok, Option, Result, Some, ap, append_assoc, append-nil, refl, suc, sym, zero, ℕ, ℤ, ◌++◌, ◌+◌, ◌∙◌, ◌≡◌}
-use Rattle.mb_kinds.specs.RecordText.{row_in, rows_in, says}
+use Rattle.mb_kinds.specs.RecordText.{row_in, rows_in}
 use Rattle.mb_tables.specs.Answers.{IsRefused, ◌>>=◌}
+use Rattle.mb_text.specs.RecordLines.{says}
 
 -- what was read stands in front of what is read then
 abbrev pub with_front : List ℤ → Result (List ℤ × List (List ℕ)) ℕ →

@@ -6,11 +6,8 @@ use Rattle.std.proofs.lemmas.List.Elements.{All-from_recursion}
 use Rattle.std.specs.Fmt.{decimal}
 use Rattle.std.specs.List.{AllByRecursion, count_by, find, join_with_byte}
 use Rattle.std.specs.Option.{is_none, option_and_then, option_map, option_or}
-use Rattle.mb_kinds.proofs.LineItems.{are_items, decimals_are_items, items_again, name_is_item}
-use Rattle.mb_kinds.proofs.NumberItems.{numbers_written}
-use Rattle.mb_kinds.specs.Name.{is_name}
 use Rattle.mb_kinds.specs.Record.{base_items, scale_items}
-use Rattle.mb_kinds.specs.RecordText.{after, as_many, base_in, dataset_in, fixed_by, numbers_after, only_name, scale_in, scheme_in, sizes_in, two_sizes}
+use Rattle.mb_kinds.specs.RecordText.{as_many, base_in, fixed_by, scale_in, scheme_in, sizes_in, two_sizes}
 use Rattle.mb_matrix.proofs.FirstFaults.{is_size-true}
 use Rattle.mb_matrix.proofs.FirstFound.{position_range-Some}
 use Rattle.mb_matrix.specs.Faults.{is_size}
@@ -18,19 +15,10 @@ use Rattle.mb_matrix.specs.Matrix.{Design, IsDesign}
 use Rattle.mb_matrix.specs.Measure.{IsMeasureOf, RowMargins, Scheme, Total, Weighting, base_fault, has_cell, is_group_row, rows_fault, scale_fault, uncovered, unless_fault}
 use Rattle.mb_matrix.specs.declared.measure_fault.MeasureFault.{MeasureFault}
 use Rattle.mb_matrix.specs.declared.measure_fault.MeasureFault.TheVariants.{BadScaleRow, ScaleNotCover}
-
--- the line of the dataset has items
-pub dataset_items : (name : List ℕ) → is_name name ≡ true →
-    are_items (codes "dataset" ∷ name ∷ []) ≡ true
-dataset_items name e = ap (λ t. t && true) (name_is_item name e)
-
--- and says the name
-pub dataset_said : (name : List ℕ) → is_name name ≡ true →
-    dataset_in (join_with_byte 32 (codes "dataset" ∷ name ∷ [])) ≡ Some name
-dataset_said name e =
-    ap (λ list. option_and_then only_name (after (codes "dataset") list))
-    (items_again (codes "dataset" ∷ name ∷ []) (λ n. cc) (dataset_items name e))
-    ∙ ap (λ t. cond t (Some name) None) e
+use Rattle.mb_text.proofs.ItemBytes.{are_items, decimals_are_items, items_again}
+use Rattle.mb_text.proofs.LineReaders.{numbers_after_written}
+use Rattle.mb_text.proofs.NumberLists.{numbers_written}
+use Rattle.mb_text.specs.LineForms.{after, numbers_after}
 
 -- numbers up to 64 fit
 two_fit : (rows cells : ℕ) → rows ≤ 64 → cells ≤ 64 → All (λ n. n < 2 ^ 32) (rows ∷ cells ∷ [])
@@ -47,11 +35,9 @@ pub sizes_said : (rows cells : ℕ) → 1 ≤ rows → rows ≤ 64 → 1 ≤ cel
     sizes_in (join_with_byte 32 (codes "matrix" ∷ decimal rows ∷ decimal cells ∷ []))
     ≡ Some (rows, cells)
 sizes_said rows cells some few some_cells few_cells =
-    ap (λ list. option_and_then two_sizes (numbers_after (codes "matrix") list))
-    (items_again (codes "matrix" ∷ decimal rows ∷ decimal cells ∷ []) (λ n. cc)
-    (sizes_items rows cells few few_cells))
-    ∙ ap (option_and_then two_sizes)
-    (numbers_written (rows ∷ cells ∷ []) (two_fit rows cells few few_cells))
+    ap (option_and_then two_sizes)
+    (numbers_after_written (codes "matrix") (rows ∷ cells ∷ []) refl
+    (record { some = omega arith; small = two_fit rows cells few few_cells }))
     ∙ ap (λ t. cond (t && is_size cells) (Some (rows, cells)) None) (is_size-true rows some few)
     ∙ ap (λ t. cond t (Some (rows, cells)) None) (is_size-true cells some_cells few_cells)
 
@@ -158,7 +144,7 @@ pub base_said : (cells : ℕ) (bases : List ℕ) → 1 ≤ cells → length base
     All (λ n. n < 2 ^ 32) bases → base_in cells (join_with_byte 32 (base_items bases)) ≡ Some bases
 base_said cells [] some long small = absurd (omega arith)
 base_said cells (n ∷ bases) some long small =
-    ap (λ list. option_and_then (as_many cells) (numbers_after (codes "base") list))
-    (items_again (base_items (n ∷ bases)) (λ x. cc) (decimals_are_items (n ∷ bases) small))
-    ∙ ap (option_and_then (as_many cells)) (numbers_written (n ∷ bases) small)
+    ap (option_and_then (as_many cells))
+    (numbers_after_written (codes "base") (n ∷ bases) refl
+    (record { some = omega arith; small = small }))
     ∙ ap (λ t. cond t (Some (n ∷ bases)) None) (eq-eqb (length (n ∷ bases)) cells long)

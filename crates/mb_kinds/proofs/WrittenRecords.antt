@@ -9,14 +9,16 @@ use Rattle.std.proofs.lemmas.List.Sums.{list_all-from_AllPass}
 use Rattle.std.specs.Fmt.{decimal}
 use Rattle.std.specs.List.{flat_map, join_with_byte, list_all}
 use Rattle.std.specs.Option.{option_and_then}
-use Rattle.mb_kinds.proofs.LineItems.{are_items, decimals_are_items, items_again, says_written}
 use Rattle.mb_kinds.proofs.NumberItems.{entries_written}
-use Rattle.mb_kinds.proofs.RecordSteps.{step_on}
-use Rattle.mb_kinds.specs.RecordText.{is_design_entry, row_in, rows_in as rows_from, says, whole_row}
+use Rattle.mb_kinds.specs.RecordText.{is_design_entry, row_in, rows_in as rows_from, whole_row}
 use Rattle.mb_moves.proofs.RowsEndToEnd.{end_to_end}
 use Rattle.mb_tables.specs.Answers.{◌>>=◌}
+use Rattle.mb_text.proofs.ItemBytes.{are_items, decimals_are_items, items_again}
+use Rattle.mb_text.proofs.RecordSteps.{step_on}
+use Rattle.mb_text.proofs.SaidLines.{says_written}
 use Rattle.mb_text.specs.Lines.{line, lines}
 use Rattle.mb_text.specs.Plain.{each_of, plain_signed_of, size_at_most}
+use Rattle.mb_text.specs.RecordLines.{says}
 
 -- so many entries up to 1,000
 pub record IsRow (cells : ℕ) (row : List ℕ) : Type 0 where

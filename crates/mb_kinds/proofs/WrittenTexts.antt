@@ -6,21 +6,27 @@ use Rattle.std.proofs.lemmas.List.{length-map}
 use Rattle.std.proofs.lemmas.Simd.{map-map}
 use Rattle.std.specs.Fmt.{decimal}
 use Rattle.std.specs.List.{flat_map, range_with_len}
-use Rattle.mb_kinds.proofs.LineItems.{decimals_are_items, says_written}
 use Rattle.mb_matrix.proofs.MatrixOfRows.{is_of_rows, row_long, rows_array}
-use Rattle.mb_kinds.proofs.RecordSteps.{step_on, with_base, with_dataset, with_last, with_matrix, with_measure, with_rows, with_scale, with_sizes, with_version}
-use Rattle.mb_kinds.proofs.SaidLines.{base_said, dataset_items, dataset_said, no_scale_fault, scale_are_items, scale_said, sizes_items, sizes_said}
+use Rattle.mb_kinds.proofs.RecordSteps.{with_base, with_dataset, with_last, with_matrix, with_measure, with_rows, with_scale, with_sizes, with_version}
+use Rattle.mb_kinds.proofs.SaidLines.{base_said, no_scale_fault, scale_are_items, scale_said, sizes_items, sizes_said}
 use Rattle.mb_kinds.proofs.WrittenRecords.{IsRow, rows_written}
 use Rattle.mb_kinds.specs.Model.{IsModel, ModelValue}
 use Rattle.mb_kinds.specs.Record.{IsModelRecord, ModelRecord, base_items, row_lines, scale_items, written_record}
-use Rattle.mb_kinds.specs.RecordText.{base_in, dataset_in, exactly, measure_in, model_in, or_line, record_of, rows_in as rows_from, says, scale_in, sizes_in}
+use Rattle.mb_kinds.specs.RecordText.{base_in, measure_in, model_in, or_line, record_of, rows_in as rows_from, scale_in, sizes_in}
 use Rattle.mb_matrix.proofs.RowsAndColumns.{entry_small, get_or-rows_in, length-rows_in}
 use Rattle.mb_matrix.specs.Faults.{matrix_of}
 use Rattle.mb_matrix.specs.Matrix.{Design, IsDesign, row_of, rows_in}
 use Rattle.mb_matrix.specs.Measure.{IsMeasureOf, Weighting}
 use Rattle.mb_moves.proofs.RowsEndToEnd.{array_of-end_to_end, end_to_end}
 use Rattle.mb_tables.specs.Rows.{array_of}
+use Rattle.mb_text.proofs.ItemBytes.{decimals_are_items}
+use Rattle.mb_text.proofs.LineReaders.{line_read, name_reads}
+use Rattle.mb_text.proofs.RecordSteps.{step_on}
+use Rattle.mb_text.proofs.SaidLines.{says_written}
+use Rattle.mb_text.specs.LineForms.{exactly, name_after}
 use Rattle.mb_text.specs.Lines.{line, lines}
+use Rattle.mb_text.specs.Name.{IsName}
+use Rattle.mb_text.specs.RecordLines.{says}
 
 -- the rows of a design matrix
 abbrev rows_of : Design → List (List ℕ)
@@ -171,8 +177,8 @@ record_said entry is =
     ∙ says_written 1 (exactly (codes "model 1")) (codes "model" ∷ codes "1" ∷ []) second tt refl
     refl)
     (step_on _ (entry.dataset, lines third) with_dataset _
-    (says_written 2 dataset_in (codes "dataset" ∷ entry.dataset ∷ []) third entry.dataset
-    (dataset_items entry.dataset is.named) (dataset_said entry.dataset is.named))
+    (line_read (name_after (codes "dataset")) (λ name. codes "dataset" ∷ name ∷ []) IsName
+    (name_reads (codes "dataset") refl) 2 entry.dataset third is.named)
     (step_on _ ((rows, cells), lines model) (with_sizes entry.dataset) _
     (says_written 3 sizes_in (codes "matrix" ∷ decimal rows ∷ decimal cells ∷ []) model
     (rows, cells) (sizes_items rows cells design.few_rows design.few_cells)

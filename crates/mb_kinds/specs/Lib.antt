@@ -4,7 +4,6 @@ pub mod Kinds
 pub mod Laws
 pub mod Model
 pub mod ModelText
-pub mod Name
 pub mod Record
 pub mod RecordText
 pub mod loops

@@ -1,12 +1,12 @@
 -- The record of a model, and its written form.
 use Rattle.std.specs.Fmt.{decimal}
 use Rattle.std.specs.List.{flat_map, range_with_len}
-use Rattle.std.specs.Prelude.{All, List, [], codes, length, map, true, ℕ, ◌++◌, ◌<◌, ◌^◌, ◌∷◌, ◌≡◌}
+use Rattle.std.specs.Prelude.{All, List, [], codes, length, map, ℕ, ◌++◌, ◌<◌, ◌^◌, ◌∷◌}
 use Rattle.mb_kinds.specs.Model.{IsModel, ModelValue}
-use Rattle.mb_kinds.specs.Name.{is_name}
 use Rattle.mb_matrix.specs.Matrix.{Design, row_of}
 use Rattle.mb_matrix.specs.Measure.{RowMargins, Scheme, Total}
 use Rattle.mb_text.specs.Lines.{line}
+use Rattle.mb_text.specs.Name.{IsName}
 
 -- a model, and the name of its dataset
 pub record ModelRecord : Type 0 where
@@ -15,7 +15,7 @@ pub record ModelRecord : Type 0 where
 
 -- a name and a model whose base numbers fit 32 bits
 pub record IsModelRecord (entry : ModelRecord) : Type 0 where
-  pub named : is_name entry.dataset ≡ true
+  pub named : IsName entry.dataset
   pub sound : IsModel entry.model
   pub fits : All (λ number. number < 2 ^ 32) entry.model.measure.bases
 

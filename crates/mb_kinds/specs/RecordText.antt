@@ -1,60 +1,24 @@
 -- The model record that a text is, or its first wrong line. Lines count from 1.
 use Rattle.std.specs.List.{list_all}
 use Rattle.std.specs.Option.{is_none, option_and_then, option_map}
-use Rattle.std.specs.Prelude.{Bool, Err, List, None, Ok, Option, Result, Some, [], codes, if◌then◌else◌, length, pos, suc, zero, int_le, ℕ, ℤ, ◌&&◌, ◌++◌, ◌+◌, ◌-◌, ◌==◌, ◌^◌, ◌∷◌}
+use Rattle.std.specs.Prelude.{Bool, Err, List, None, Ok, Option, Result, Some, [], codes, if◌then◌else◌, int_le, length, pos, suc, zero, ℕ, ℤ, ◌&&◌, ◌++◌, ◌+◌, ◌-◌, ◌==◌, ◌^◌, ◌∷◌}
 use Rattle.std.specs.Str.{bytes_eq}
 use Rattle.mb_kinds.specs.Model.{ModelValue}
-use Rattle.mb_kinds.specs.Name.{is_name}
 use Rattle.mb_kinds.specs.Record.{ModelRecord}
-use Rattle.mb_kinds.specs.declared.fault.RecordFault.{RecordFault}
-use Rattle.mb_kinds.specs.declared.fault.RecordFault.TheVariants.{OutOfMemory, Text}
 use Rattle.mb_matrix.specs.Faults.{is_size, matrix_of}
 use Rattle.mb_matrix.specs.Limits.{largest_entry}
 use Rattle.mb_matrix.specs.Matrix.{Design}
 use Rattle.mb_matrix.specs.Measure.{RowMargins, Scheme, Total, Weighting, measure_of, scale_fault}
 use Rattle.mb_tables.specs.Answers.{◌>>=◌}
 use Rattle.mb_tables.specs.Rows.{array_of}
-use Rattle.mb_text.specs.Faults.{in_line}
+use Rattle.mb_text.specs.LineForms.{after, exactly, name_after, numbers_after, passing}
 use Rattle.mb_text.specs.Lines.{items, lines}
-use Rattle.mb_text.specs.Plain.{at_most, each_of, plain_of, plain_signed_of, size_at_most}
-
--- the first of the pieces, where another follows: the last piece of a text is no line
-abbrev pub first_line : ℕ → List (List ℕ) → Result (List ℕ × List (List ℕ)) ℕ
-first_line number (line ∷ next ∷ pieces) = Ok (line, next ∷ pieces)
-first_line number _ = Err number
-
--- what the first line says, and the pieces after it
-unfoldable pub says : {A : Type 0} → ℕ → (List ℕ → Option A) → List (List ℕ) →
-    Result (A × List (List ℕ)) ℕ
-says number read pieces =
-    first_line number pieces >>= λ line.
-    in_line number (option_map (λ x. (x, line.1)) (read line.0))
-
--- the numbers below 2^32 that items are
-abbrev pub numbers_of : List (List ℕ) → Option (List ℕ)
-numbers_of list = each_of (λ item. at_most (2 ^ 32 - 1) (plain_of item)) list
-
--- the items after a word, of which there is one at least
-abbrev pub after : List ℕ → List (List ℕ) → Option (List (List ℕ))
-after word (first ∷ item ∷ others) = if bytes_eq first word then Some (item ∷ others) else None
-after word _ = None
-
--- the numbers after a word
-abbrev pub numbers_after : List ℕ → List (List ℕ) → Option (List ℕ)
-numbers_after word list = option_and_then numbers_of (after word list)
-
--- a line of this text alone
-abbrev pub exactly : List ℕ → List ℕ → Option (Unit {0})
-exactly text line = if bytes_eq line text then Some tt else None
-
--- the only item, where it is a name
-abbrev pub only_name : List (List ℕ) → Option (List ℕ)
-only_name (name ∷ []) = if is_name name then Some name else None
-only_name _ = None
+use Rattle.mb_text.specs.Plain.{each_of, plain_signed_of, size_at_most}
+use Rattle.mb_text.specs.RecordLines.{ends, says}
 
 -- the name of the dataset
 abbrev pub dataset_in : List ℕ → Option (List ℕ)
-dataset_in line = option_and_then only_name (after (codes "dataset") (items line))
+dataset_in line = name_after (codes "dataset") line
 
 -- two numbers, each of 1 to 64
 abbrev pub two_sizes : List ℕ → Option (ℕ × ℕ)
@@ -72,7 +36,7 @@ is_design_entry entry = int_le (pos 0) entry && int_le entry (pos largest_entry)
 -- a row of so many cells
 abbrev pub whole_row : ℕ → List ℤ → Option (List ℤ)
 whole_row cells row =
-    if length row == cells && list_all is_design_entry row then Some row else None
+    passing (λ entries. length entries == cells && list_all is_design_entry entries) row
 
 -- the entries of a row
 abbrev pub row_in : ℕ → List ℕ → Option (List ℤ)
@@ -97,7 +61,7 @@ scheme_in line =
 
 -- the scheme, where the matrix fixes its margins
 abbrev pub fixed_by : Design → Scheme → Option Scheme
-fixed_by matrix scale = if is_none (scale_fault matrix scale) then Some scale else None
+fixed_by matrix scale = passing (λ s. is_none (scale_fault matrix s)) scale
 
 -- the scale on a matrix
 abbrev pub scale_in : Design → List ℕ → Option Scheme
@@ -105,16 +69,11 @@ scale_in matrix line = option_and_then (fixed_by matrix) (scheme_in line)
 
 -- so many numbers
 abbrev pub as_many : ℕ → List ℕ → Option (List ℕ)
-as_many cells numbers = if length numbers == cells then Some numbers else None
+as_many cells numbers = passing (λ list. length list == cells) numbers
 
 -- the base numbers of so many cells
 abbrev pub base_in : ℕ → List ℕ → Option (List ℕ)
 base_in cells line = option_and_then (as_many cells) (numbers_after (codes "base") (items line))
-
--- the last piece is empty: the text ends with the line end before it
-abbrev pub ends : ℕ → List (List ℕ) → Result (Unit {0}) ℕ
-ends number ([] ∷ []) = Ok tt
-ends number _ = Err number
 
 -- what is refused as a whole is wrong at this line
 abbrev pub or_line : {A F : Type 0} → ℕ → Result A F → Result A ℕ
@@ -149,8 +108,3 @@ record_of text =
     says 3 sizes_in dataset.1 >>= λ sizes.
     model_in 4 sizes.0 sizes.1 >>= λ model.
     Ok (record { dataset = dataset.0; model = model })
-
--- the number of the first wrong line; want of memory has none
-abbrev pub record_cause : RecordFault → Option ℕ
-record_cause (Text line) = Some line
-record_cause OutOfMemory = None

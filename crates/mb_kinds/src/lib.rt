@@ -3,7 +3,6 @@
 #![tactic(auto)]
 
 mod building;
-mod fault;
 mod generator;
 mod hardy_weinberg;
 mod hierarchical;
@@ -19,17 +18,15 @@ mod rasch;
 mod reading;
 mod record;
 mod record_head;
-mod record_lines;
 mod record_measure;
 mod record_rows;
 mod record_written;
 
-pub use fault::RecordFault;
 pub use kind_fault::{KindFault, ModelKey};
 pub use kind_laws::rasch_is_hierarchical;
 pub use laws::{read_record_is_written, written_record_is_read};
+pub use mb_text::{RecordFault, is_name};
 pub use model::Model;
 pub use reading::read_model;
 pub use record::read_model_record;
-pub use record_head::is_name;
 pub use record_written::write_model;

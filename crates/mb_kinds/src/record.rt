@@ -2,20 +2,20 @@
 
 ghost use Rattle.std.specs.Prelude.{◌≡◌, ◌≤◌, ◌+◌, ◌*◌, length};
 ghost use Rattle.std.specs.String.{string_bytes};
-ghost use Rattle.mb_kinds.specs.RecordText.{model_in, or_line, record_cause, record_of};
+ghost use Rattle.mb_kinds.specs.RecordText.{model_in, or_line, record_of};
 ghost use Rattle.mb_matrix.specs.Faults.{matrix_of};
 ghost use Rattle.mb_tables.specs.Answers.{Gives};
 ghost use Rattle.mb_tables.specs.Limits.{most_cells};
 ghost use Rattle.mb_tables.specs.Rows.{array_of};
 ghost use Rattle.mb_text.specs.Lines.{lines};
+ghost use Rattle.mb_text.specs.RecordLines.{record_cause};
 
-use crate::fault::RecordFault;
 use crate::model::Model;
-use crate::record_head::{read_dataset_name, read_sizes};
-use crate::record_lines::read_exactly;
+use crate::record_head::read_sizes;
 use crate::record_measure::read_measure;
 use crate::record_rows::read_rows;
 use mb_matrix::{Matrix, MatrixFault};
+use mb_text::{RecordFault, read_exactly, read_name};
 use std::alloc::Global;
 
 /// The design matrix of these entries, which is wrong at the line of this number where it is
@@ -76,7 +76,7 @@ pub fn read_model_record(alloc: Global, text: &[u8]) -> Result<(String, Model), 
         (record_of text.now) }
 {
     let text = read_exactly(text, b"model 1", 1)?;
-    let (dataset, text) = read_dataset_name(alloc, text, 2)?;
+    let (dataset, text) = read_name(alloc, text, b"dataset", 2)?;
     let (sizes, text) = read_sizes(alloc, text, 3)?;
     let model = read_model_lines(alloc, text, sizes, 4)?;
     Ok((dataset, model))

@@ -1,16 +1,16 @@
 //! The scale and the base in a record text.
 
 ghost use Rattle.std.specs.Prelude.{◌≡◌, ◌≤◌, ◌+◌, IfOk, length};
-ghost use Rattle.mb_kinds.specs.RecordText.{base_in, ends, measure_in, or_line, record_cause, says, scale_in, scheme_in};
+ghost use Rattle.mb_kinds.specs.RecordText.{base_in, measure_in, or_line, scale_in, scheme_in};
 ghost use Rattle.mb_matrix.specs.Measure.{IsMeasureOf, measure_of};
 ghost use Rattle.mb_matrix.specs.Scheme.{scheme_of};
 ghost use Rattle.mb_tables.specs.Answers.{Gives};
 ghost use Rattle.mb_text.specs.Faults.{in_line};
 ghost use Rattle.mb_text.specs.Lines.{lines};
+ghost use Rattle.mb_text.specs.RecordLines.{record_cause, says};
 
-use crate::fault::RecordFault;
-use crate::record_lines::{numbers_after, read_exactly, rest_after, take_line};
 use mb_matrix::{Matrix, Measure, MeasureFault, Scale, scale_fault};
+use mb_text::{RecordFault, numbers_after, read_end, read_exactly, rest_after, take_line};
 use std::alloc::Global;
 
 /// The scale that a line says.
@@ -27,7 +27,7 @@ fn scale_of(alloc: Global, line: &[u8], number: u32) -> Result<Scale, RecordFaul
 }
 
 /// The scale, where the matrix fixes its margins, and the text after its line.
-#[tactic(auto, unfolding(crate::specs::RecordText::says))]
+#[tactic(auto, unfolding(mb_text::specs::RecordLines::says))]
 fn read_scale<'a>(
     alloc: Global,
     text: &'a [u8],
@@ -46,7 +46,7 @@ fn read_scale<'a>(
 }
 
 /// The base numbers of so many cells, and the text after their line.
-#[tactic(auto, unfolding(crate::specs::RecordText::says))]
+#[tactic(auto, unfolding(mb_text::specs::RecordLines::says))]
 fn read_base(
     alloc: Global,
     text: &[u8],
@@ -61,17 +61,6 @@ fn read_base(
     let numbers = numbers_after(alloc, line, b"base", number)?;
     if numbers.len() == cells as usize {
         Ok((numbers, rest))
-    } else {
-        Err(RecordFault::Text { line: number })
-    }
-}
-
-/// Whether the text ends here, after the line end before it.
-fn read_end(text: &[u8], number: u32) -> Result<(), RecordFault>
-    ensures { Gives record_cause (λ _. tt) result (ends number (lines text.now)) }
-{
-    if text.is_empty() {
-        Ok(())
     } else {
         Err(RecordFault::Text { line: number })
     }

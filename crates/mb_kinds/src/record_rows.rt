@@ -2,17 +2,16 @@
 
 ghost use Rattle.std.specs.List.{list_all};
 ghost use Rattle.std.specs.Prelude.{◌≡◌, ◌≤◌, ◌*◌, ◌-◌, ◌^◌, IfOk, length};
-ghost use Rattle.mb_kinds.specs.RecordText.{is_design_entry, record_cause, row_in, rows_in, says};
+ghost use Rattle.mb_kinds.specs.RecordText.{is_design_entry, row_in, rows_in};
 ghost use Rattle.mb_tables.specs.Answers.{Gives};
 ghost use Rattle.mb_tables.specs.Limits.{most_cells};
 ghost use Rattle.mb_text.specs.Faults.{in_line};
 ghost use Rattle.mb_text.specs.Lines.{items, lines};
 ghost use Rattle.mb_text.specs.Plain.{each_of, plain_signed_of, size_at_most};
+ghost use Rattle.mb_text.specs.RecordLines.{record_cause, says};
 
-use crate::fault::RecordFault;
-use crate::record_lines::take_line;
 use mb_matrix::LARGEST_ENTRY;
-use mb_text::{LineFault, read_numbers};
+use mb_text::{LineFault, RecordFault, read_numbers, take_line};
 use std::alloc::Global;
 
 /// Whether each number is an entry of a design matrix.
@@ -37,7 +36,7 @@ fn signed_numbers(alloc: Global, line: &[u8], number: u32) -> Result<Vec<i32>, R
 }
 
 /// The entries of a row of so many cells, each 0 to 1,000, and the text after its line.
-#[tactic(auto, unfolding(crate::specs::RecordText::says))]
+#[tactic(auto, unfolding(mb_text::specs::RecordLines::says))]
 fn read_row(
     alloc: Global,
     text: &[u8],

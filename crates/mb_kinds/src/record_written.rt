@@ -2,12 +2,12 @@
 
 ghost use Rattle.std.specs.Fmt.{decimal};
 ghost use Rattle.std.specs.List.{flat_map};
-ghost use Rattle.std.specs.Prelude.{◌≡◌, ◌++◌, ◌∷◌, [], IfOk, OnOk, codes, true};
-ghost use Rattle.mb_kinds.specs.Name.{is_name};
+ghost use Rattle.std.specs.Prelude.{◌≡◌, ◌++◌, ◌∷◌, [], IfOk, OnOk, codes};
 ghost use Rattle.mb_kinds.specs.Record.{row_lines, scale_items, written_record};
 ghost use Rattle.mb_matrix.specs.Measure.{RowMargins, Total};
 ghost use Rattle.mb_matrix.specs.Scheme.{scheme_of};
 ghost use Rattle.mb_text.specs.Lines.{line};
+ghost use Rattle.mb_text.specs.Name.{IsName};
 
 use crate::model::Model;
 use mb_matrix::{Matrix, Scale};
@@ -72,7 +72,7 @@ fn push_scale(out: &mut Vec<u8>, scale: &Scale) -> Result<(), OutOfMemory>
 
 /// The record text of a model of a dataset: the one text that `read_model_record` reads as both.
 pub fn write_model(alloc: Global, dataset: &str, model: &Model) -> Result<Vec<u8>, OutOfMemory>
-    requires { is_name dataset.now ≡ true }
+    requires { IsName dataset.now }
     ensures { IfOk result (λ text. text.items
         ≡ written_record (record { dataset = dataset.now; model = model.now })) }
 {

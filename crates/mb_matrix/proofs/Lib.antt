@@ -1,8 +1,14 @@
 pub mod AscendingLists
+pub mod CellLists
+pub mod Congruence
 pub mod CountBounds
+pub mod Deltas
+pub mod Determined
+pub mod Digits
 pub mod FillLaws
 pub mod FirstFaults
 pub mod FirstFound
+pub mod FreeCells
 pub mod GroupLaws
 pub mod KeptEntries
 pub mod ListedTables
@@ -13,4 +19,9 @@ pub mod MatrixOfRows
 pub mod MovedMargins
 pub mod NoFault
 pub mod NumberedRows
+pub mod PeelSteps
+pub mod Ranks
+pub mod ReadBack
 pub mod RowsAndColumns
+pub mod Suits
+pub mod Triangular

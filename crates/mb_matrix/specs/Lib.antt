@@ -1,11 +1,14 @@
 pub mod Ascending
 pub mod Faults
 pub mod Fiber
+pub mod Key
+pub mod KeyLaws
 pub mod Laws
 pub mod Limits
 pub mod MarkovBasis
 pub mod Matrix
 pub mod Measure
 pub mod MeasureLaws
+pub mod Peel
 pub mod Scheme
 pub mod loops

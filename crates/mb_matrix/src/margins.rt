@@ -26,7 +26,7 @@ fn weighted(entry: u16, z: i32) -> i64
 }
 
 /// The sum of the counts, each times its entry of the row.
-fn sum_of_counts(row: &[u16], counts: &[u32]) -> u64
+pub fn sum_of_counts(row: &[u16], counts: &[u32]) -> u64
     requires cells { length row.now ≡ length counts.now }
     requires few { length row.now ≤ 64 }
     ensures { result ≡ margin row.now counts.now }

@@ -1,10 +1,11 @@
--- Weights bound exponents, and there is none past the margins.
-use Rattle.std.proofs.Common.{List, [], arith, inl, inr, length, suc, zero, ℕ, ◌*◌, ◌<◌, ◌∷◌, ◌≡◌, ◌≤◌, ◌⊎◌}
+-- Weights bound exponents, the degree bounds weights, and there is none past the margins.
+use Rattle.std.proofs.Common.{All, List, [], arith, inl, inr, length, suc, sum, zero, ℕ, ◌*◌, ◌<◌, ◌∷◌, ◌≡◌, ◌≤◌, ◌⊎◌}
 use Rattle.std.proofs.Math.Nat.{mul-le-mul}
 use Rattle.std.proofs.lemmas.List.{get_or_past}
 use Rattle.mb_matrix.proofs.FillLaws.{length-margins}
+use Rattle.mb_matrix.proofs.MarginBounds.{margin_at_most}
 use Rattle.mb_matrix.specs.Fiber.{AreColumns, margins}
-use Rattle.mb_order.proofs.WeightLaws.{symbols-fit}
+use Rattle.mb_order.proofs.WeightLaws.{symbols-fit, symbols-small}
 use Rattle.mb_order.specs.Weight.{symbols}
 use Rattle.mb_tables.proofs.VectorLaws.{at-plus, at-times, some_place}
 use Rattle.mb_tables.specs.Vectors.{at, times}
@@ -45,6 +46,13 @@ light-exponents d columns m most h w light k =
           omega arith
       | inr l ↦ (let e = get_or_past m k 0 (omega arith) in omega arith)
     ]
+
+-- where no entry passes a bound, no weight passes that times the degree
+pub weight-degree : (most d : ℕ) (columns : List (List ℕ)) (m : List ℕ) (i : ℕ) → 1 ≤ most →
+    All (λ column. All (λ entry. entry ≤ most) column) columns →
+    at (margins d (symbols d columns) m) i ≤ most * sum m
+weight-degree most d columns m i some h =
+    margin_at_most most d (symbols d columns) m i (symbols-small most d columns some h)
 
 -- there is no weight past the margins
 pub weights-past : (d : ℕ) (columns : List (List ℕ)) (m : List ℕ) (i : ℕ) →

@@ -1,13 +1,14 @@
 -- Lists of exponents, place by place: least common multiples and what a rule makes.
-use Rattle.std.proofs.Common.{List, [], ap, arith, drop, inl, inr, length, max, suc, take, zero, ℕ, ◌++◌, ◌+◌, ◌-◌, ◌<◌, ◌∷◌, ◌≡◌, ◌≤◌, ◌∙◌, ◌⊎◌}
+use Rattle.std.proofs.Common.{Bool, List, [], ap, arith, drop, false, inl, inr, length, max, suc, sym, take, true, zero, ℕ, ◌++◌, ◌+◌, ◌-◌, ◌<◌, ◌∷◌, ◌≡◌, ◌≤◌, ◌∙◌, ◌⊎◌}
 use Rattle.std.proofs.lemmas.List.{get_or_past}
 use Rattle.std.proofs.lemmas.Nat.Bits.{bit_at_or}
+use Rattle.std.specs.Bool.{OnFalse, OnTrue}
 use Rattle.std.specs.Int.Bits.{bit_or}
-use Rattle.mb_order.specs.Monomial.{Exponents}
+use Rattle.mb_order.specs.Monomial.{Exponents, HaveOneShape}
 use Rattle.mb_order.specs.Rewriting.{made}
 use Rattle.mb_order.specs.Symbols.{IsSetOf}
-use Rattle.mb_tables.proofs.VectorLaws.{at-greater, at-minus, at-plus, length-greater, length-minus, length-plus, same}
-use Rattle.mb_tables.specs.Vectors.{at, greater, minus}
+use Rattle.mb_tables.proofs.VectorLaws.{at-greater, at-minus, at-plus, length-greater, length-minus, length-plus, same, within-at, within-yes}
+use Rattle.mb_tables.specs.Vectors.{at, greater, minus, within}
 
 -- a list of the greater exponents, place by place, is the least common multiple
 pub greater-each : (w a b : List ℕ) → length w ≡ length a → length a ≡ length b →
@@ -21,6 +22,40 @@ greater-each w a b e f h = same w (greater a b) (omega (arith, length-greater a 
           (let x = get_or_past w k 0 (omega arith) in let y = get_or_past a k 0 l in
           let z = get_or_past b k 0 (omega arith) in omega arith)
     ])
+
+-- a list is within itself
+pub within-self : (a : List ℕ) → within a a ≡ true
+within-self a = within-yes a a (λ k. omega arith)
+
+-- two lists of one length, each of them within the other, are the same
+pub within-both : (a b : List ℕ) → length a ≡ length b → within a b ≡ true → within b a ≡ true →
+    a ≡ b
+within-both a b l e f =
+    same a b l (λ k. let x = within-at a b e k in let y = within-at b a f k in omega arith)
+
+-- two monomials of one shape that divide each other are the same
+pub divides-both : (a b : Exponents) → HaveOneShape a b → within a.list b.list ≡ true →
+    within b.list a.list ≡ true → a ≡ b
+divides-both a b shape e f =
+    ap (λ n. record { margins = n; list = a.list }) shape.margins
+    ∙ ap (λ l. record { margins = b.margins; list = l })
+    (within-both a.list b.list shape.symbols e f)
+
+-- where two monomials are the same, the one divides the other
+pub divides-same : (a b : Exponents) → a ≡ b → within a.list b.list ≡ true
+divides-same a b e = ap (λ (m : Exponents). within m.list b.list) e ∙ within-self b.list
+
+-- the test of the code: each divides the other
+pub same-by : (a b : Exponents) (test : Bool) → HaveOneShape a b → within a.list b.list ≡ true →
+    test ≡ within b.list a.list → OnTrue test (a ≡ b)
+same-by a b true shape e f = divides-both a b shape e (sym f)
+same-by a b false shape e f = tt
+
+-- where the second doesn't divide the first, they differ
+pub differs-by : (a b : Exponents) (test : Bool) → test ≡ within b.list a.list →
+    OnFalse test (a ≡ b → ⊥)
+differs-by a b true f = tt
+differs-by a b false f = λ e. let divides = divides-same b a (sym e) in absurd cc
 
 -- both sets together are the set of the least common multiple
 pub greater-set : (s t : ℕ) (w a b : List ℕ) → w ≡ greater a b → IsSetOf s a → IsSetOf t b →

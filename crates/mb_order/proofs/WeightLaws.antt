@@ -1,11 +1,12 @@
 -- Laws of the weight: by its parts, and of the columns of all symbols.
-use Rattle.std.proofs.Common.{List, [], ap, arith, length, suc, sym, zero, ℕ, ◌++◌, ◌+◌, ◌∙◌, ◌∷◌, ◌≡◌}
+use Rattle.std.proofs.Common.{All, List, [], ap, arith, length, suc, sym, zero, ℕ, ◌++◌, ◌+◌, ◌∙◌, ◌∷◌, ◌≡◌, ◌≤◌}
+use Rattle.std.proofs.lemmas.List.Elements.{All-cons, All-from_get_or}
 use Rattle.mb_matrix.proofs.FillLaws.{length-margins}
 use Rattle.mb_matrix.specs.Fiber.{AreColumns, margins}
 use Rattle.mb_order.specs.Weight.{symbols, units_from}
 use Rattle.mb_tables.proofs.UnitLaws.{cell-put, length-unit, unit-not_zero}
-use Rattle.mb_tables.proofs.VectorLaws.{plus-assoc, plus-zeros, zeros-append}
-use Rattle.mb_tables.specs.Vectors.{plus, times, unit, zeros}
+use Rattle.mb_tables.proofs.VectorLaws.{at-zeros, plus-assoc, plus-zeros, zeros-append}
+use Rattle.mb_tables.specs.Vectors.{at, plus, times, unit, zeros}
 
 -- the weight by parts, from a margin on
 pub weight_from : (d k more : ℕ) (columns : List (List ℕ)) (t x : List ℕ) → AreColumns d columns →
@@ -49,6 +50,33 @@ symbols-fit_from d k (suc more) columns e h = (
 pub symbols-fit : (d : ℕ) (columns : List (List ℕ)) → AreColumns d columns →
     AreColumns d (symbols d columns)
 symbols-fit d columns h = symbols-fit_from d 0 d columns (omega arith) h
+
+-- no entry of a unit passes 1
+unit-small : (n k i : ℕ) → at (unit n k) i ≤ 1
+unfolding unit
+unit-small zero k i = omega arith
+unit-small (suc n) zero zero = omega arith
+unit-small (suc n) zero (suc i) = let e = at-zeros n i in omega arith
+unit-small (suc n) (suc k) zero = omega arith
+unit-small (suc n) (suc k) (suc i) = unit-small n k i
+
+-- no entry of the columns of all symbols passes a bound of the cells' entries, from a margin on
+symbols-small_from : (most d k more : ℕ) (columns : List (List ℕ)) → 1 ≤ most →
+    All (λ column. All (λ entry. entry ≤ most) column) columns →
+    All (λ column. All (λ entry. entry ≤ most) column) (units_from d k more ++ columns)
+unfolding units_from
+symbols-small_from most d k zero columns some h = h
+symbols-small_from most d k (suc more) columns some h =
+    All-cons (All (λ entry. entry ≤ most)) (unit d k) (units_from d (suc k) more ++ columns)
+    (All-from_get_or (λ entry. entry ≤ most) (unit d k) 0 (λ i l.
+    let a = unit-small d k i in omega arith))
+    (symbols-small_from most d (suc k) more columns some h)
+
+-- no entry of the columns of all symbols passes a bound of the cells' entries
+pub symbols-small : (most d : ℕ) (columns : List (List ℕ)) → 1 ≤ most →
+    All (λ column. All (λ entry. entry ≤ most) column) columns →
+    All (λ column. All (λ entry. entry ≤ most) column) (symbols d columns)
+symbols-small most d columns some h = symbols-small_from most d 0 d columns some h
 
 -- the columns of all symbols are so many, from a margin on
 pub symbols-length_from : (d k more : ℕ) (columns : List (List ℕ)) →

@@ -1,12 +1,9 @@
 //! Loops over exponents. Where a set of symbols is at hand, only the symbols in it are visited:
 //! a monomial has few of them.
 
-ghost use Rattle.std.specs.Prelude.{IfOk, ◌≡◌, ◌≤◌, ◌-◌, ◌+◌, length, ℕ};
+ghost use Rattle.std.specs.Prelude.{◌≡◌, ◌≤◌, ◌-◌, ◌+◌, length, ℕ};
 ghost use Rattle.mb_order.specs.Symbols.{IsSetOf};
 ghost use Rattle.mb_tables.specs.Vectors.{at, greater, within};
-
-use mb_tables::OutOfMemory;
-use std::alloc::Global;
 
 /// The set of the symbols whose exponent is above 0.
 pub fn set_of(exponents: &[u16]) -> u128
@@ -40,16 +37,14 @@ pub fn is_within(set: u128, low: &[u16], high: &[u16]) -> bool
     true
 }
 
-/// The greater exponent at each place.
-pub fn greater_of(alloc: Global, a: &[u16], b: &[u16]) -> Result<Vec<u16>, OutOfMemory>
-    requires { length a.now ≡ length b.now }
-    ensures { IfOk result (λ v. v.items ≡ greater a.now b.now) }
+/// Raises each exponent to that of the other list at its place, where that is greater.
+pub fn raise(exponents: &mut [u16], others: &[u16])
+    requires { length others.now ≡ length exponents.old }
+    ensures { exponents.new ≡ greater exponents.old others.now }
 {
-    let mut all = Vec::with_capacity(alloc, a.len())?;
-    for (k, exponent) in a.iter().enumerate() {
-        all.push((*exponent).max(b[k]))?;
+    for (k, exponent) in exponents.iter_mut().enumerate() {
+        *exponent = (*exponent).max(others[k]);
     }
-    Ok(all)
 }
 
 /// Puts the exponents of `right` in place of those of `left`. The set has the symbols of these

@@ -102,7 +102,7 @@ impl Monomial {
     }
 
     /// All exponents, those of the margins in front.
-    pub(crate) fn as_slice(&self) -> &[u16]
+    pub fn as_slice(&self) -> &[u16]
         ensures exponents { result.now ≡ self.now.list }
         ensures sound { AreExponents self.now }
     {
@@ -122,11 +122,10 @@ impl Monomial {
         ensures same { OnTrue result (self.now ≡ other.now) }
         ensures differs { OnFalse result (self.now ≡ other.now → ⊥) }
     {
-        let symbols = other.set;
-        if self.set != symbols {
+        if !self.divides(other) {
             return false;
         }
-        self.exponents.as_slice() == other.exponents.as_slice()
+        other.divides(self)
     }
 
     /// Whether this monomial divides another of its shape: no exponent passes the other's.
@@ -166,15 +165,31 @@ impl Monomial {
         ensures margins { IfOk result (λ m. m.margins ≡ self.now.margins) }
         ensures list { IfOk result (λ m. m.list ≡ greater self.now.list other.now.list) }
     {
-        Ok(Monomial {
-            margins: self.margins,
-            exponents: exponents::greater_of(
-                alloc,
-                self.exponents.as_slice(),
-                other.exponents.as_slice(),
-            )?,
-            set: self.set | other.set,
-        })
+        let mut all = self.try_copy(alloc)?;
+        all.raise_to_lcm(other);
+        Ok(all)
+    }
+
+    /// Becomes the least common multiple of itself and another monomial of its shape. It takes no
+    /// memory.
+    pub fn raise_to_lcm(&mut self, other: &Monomial)
+        requires { HaveOneShape other.now self.old }
+        ensures margins { self.new.margins ≡ self.old.margins }
+        ensures list { self.new.list ≡ greater self.old.list other.now.list }
+    {
+        exponents::raise(self.exponents.as_mut_slice(), other.exponents.as_slice());
+        self.set |= other.set;
+    }
+
+    /// Becomes a copy of another monomial of its shape. It takes no memory.
+    pub fn copy_from(&mut self, other: &Monomial)
+        requires { HaveOneShape other.now self.old }
+        ensures { self.new ≡ other.now }
+    {
+        self.exponents
+            .as_mut_slice()
+            .copy_from_slice(other.exponents.as_slice());
+        self.set = other.set;
     }
 
     /// Divides by `left` and multiplies by `right`, and answers true. Where `left` doesn't divide,

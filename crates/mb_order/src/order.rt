@@ -20,7 +20,7 @@ pub enum Order {
 }
 
 /// The sum of exponents.
-fn degree(exponents: &[u16]) -> u32
+pub(crate) fn degree(exponents: &[u16]) -> u32
     requires { length exponents.now ≤ 128 }
     ensures { result ≡ sum exponents.now }
 {

@@ -2,12 +2,12 @@
 
 ghost use Rattle.std.specs.Prelude.{◌≡◌, ◌<◌, ◌*◌, ◌^◌, ◌≤◌, length};
 ghost use Rattle.std.specs.Bool.{OnFalse, OnTrue};
-ghost use Rattle.mb_matrix.specs.Matrix.{row_of};
 ghost use Rattle.mb_order.specs.Weight.{IsLight, Suits, weights};
 ghost use Rattle.mb_tables.specs.Margin.{margin};
 ghost use Rattle.mb_tables.specs.Vectors.{at};
 
 use crate::monomial::Monomial;
+use crate::order::degree;
 use mb_matrix::Matrix;
 
 /// The most that a monomial may weigh on a margin.
@@ -15,25 +15,27 @@ pub const MOST_WEIGHT: u64 = 65_535;
 
 const _: () = prove!(MOST_WEIGHT == 65_535);
 
+/// A degree up to which a monomial is light over every matrix: no entry of one passes 1,000.
+const LIGHT_DEGREE: u32 = 65;
+
 /// An exponent times an entry of its column.
-fn weighted(entry: u32, exponent: u16) -> u64
+fn weighted(entry: u16, exponent: u16) -> u64
     ensures product { result ≡ entry * exponent }
-    ensures small { result < 2 ^ 48 }
+    ensures small { result < 2 ^ 32 }
 {
     u64::from(entry) * u64::from(exponent)
 }
 
-/// What the exponents of cells weigh on a margin.
-fn cells_weight(matrix: &Matrix, cells: &[u16], row: u32) -> u64
-    requires cells { length cells.now ≡ length matrix.now.columns }
+/// What the exponents of cells weigh on the margin of a row.
+fn cells_weight(row: &[u16], cells: &[u16]) -> u64
+    requires long { length row.now ≡ length cells.now }
     requires few { length cells.now ≤ 64 }
-    requires row { row < matrix.now.rows }
-    ensures weight { result ≡ margin (row_of matrix.now row) cells.now }
-    ensures small { result ≤ 2 ^ 48 * 64 }
+    ensures weight { result ≡ margin row.now cells.now }
+    ensures small { result ≤ 2 ^ 32 * 64 }
 {
     let mut sum = 0u64;
     for (cell, exponent) in cells.iter().enumerate() {
-        sum += weighted(matrix.entry(row, cell as u32), *exponent);
+        sum += weighted(row[cell], *exponent);
     }
     sum
 }
@@ -47,7 +49,7 @@ impl Monomial {
         ensures { result ≡ at (weights matrix.now self.now.list) row }
     {
         let (own, cells) = self.as_slice().split_at(matrix.rows() as usize);
-        u64::from(own[row as usize]) + cells_weight(matrix, cells, row)
+        u64::from(own[row as usize]) + cells_weight(matrix.row(row), cells)
     }
 
     /// Whether no margin weighs more than 65,535. It takes no memory.
@@ -56,7 +58,11 @@ impl Monomial {
         ensures light { OnTrue result (IsLight matrix.now self.now.list) }
         ensures heavy { OnFalse result (IsLight matrix.now self.now.list → ⊥) }
     {
-        for row in 0..matrix.rows() {
+        let rows = matrix.rows();
+        if degree(self.as_slice()) <= LIGHT_DEGREE {
+            return true;
+        }
+        for row in 0..rows {
             if self.weight(matrix, row) > MOST_WEIGHT {
                 return false;
             }

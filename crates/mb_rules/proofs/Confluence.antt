@@ -63,10 +63,23 @@ count-fewer p q (x ∷ xs) z h (inr m) not_p is_q =
     let here = h x (inl refl) in
     grind arith
 
+-- no more pass a test than there are
+count-within : (p : List ℕ → Bool) (xs : List (List ℕ)) → count p xs ≤ length xs
+unfolding count
+count-within p [] = omega arith
+count-within p (x ∷ xs) = let ih = count-within p xs in grind arith
+
 -- how many monomials of its class lie below a monomial: a measure for whatever goes down within a
 -- class
 pub rank : ℕ → List (List ℕ) → (Monomial → Monomial → Ordering) → Monomial → ℕ
 rank d columns compare m = count (λ x. is_lt (compare x m)) (fill columns (margins d columns m))
+
+-- there are no more of them than the class has members
+pub rank_within : (d : ℕ) (columns : List (List ℕ)) (compare : Monomial → Monomial → Ordering)
+    (m : Monomial) → rank d columns compare m ≤ length (fill columns (margins d columns m))
+unfolding rank
+rank_within d columns compare m =
+    count-within (λ x. is_lt (compare x m)) (fill columns (margins d columns m))
 
 -- what leads to what leads on leads there
 pub leads_then : (rules : List Rule) (first : List ℕ) (a b c : Monomial) → LeadsBy rules first a b →

@@ -12,6 +12,8 @@ mod fibers;
 #[cfg(test)]
 mod gates;
 #[cfg(test)]
+mod generate_command;
+#[cfg(test)]
 mod lines;
 #[cfg(test)]
 mod matrices;

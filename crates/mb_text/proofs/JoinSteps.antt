@@ -37,3 +37,13 @@ line_added before out new items so_far e =
     e
     ∙ ap (λ (text : List ℕ). text ++ 10 ∷ []) so_far
     ∙ append_assoc before (join_with_byte 32 items) (10 ∷ [])
+
+-- a line of a word and an item, added to a text
+pub item_line_added : (before a b c d word item : List ℕ) → a ≡ before ++ word →
+    b ≡ a ++ 32 ∷ [] → c ≡ b ++ item → d ≡ c ++ 10 ∷ [] →
+    d ≡ before ++ line (word ∷ item ∷ [])
+item_line_added before a b c d word item ea eb ec ed =
+    line_added before c d (word ∷ item ∷ [])
+    (ec ∙ ap (λ (t : List ℕ). t ++ item) (eb ∙ ap (λ (t : List ℕ). t ++ 32 ∷ []) ea)
+    ∙ append_assoc (before ++ word) (32 ∷ []) item ∙ append_assoc before word (32 ∷ item))
+    ed

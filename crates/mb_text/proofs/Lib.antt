@@ -9,3 +9,11 @@ pub mod DecimalForms
 pub mod PieceLaws
 pub mod SpellingLaws
 pub mod LineTokens
+pub mod PieceCases
+pub mod NameBytes
+pub mod ItemBytes
+pub mod NumeralItems
+pub mod NumberLists
+pub mod RecordSteps
+pub mod SaidLines
+pub mod LineReaders

@@ -4,4 +4,7 @@ pub mod Lines
 pub mod Plain
 pub mod Faults
 pub mod Laws
+pub mod Name
+pub mod LineForms
+pub mod RecordLines
 pub mod loops

@@ -19,7 +19,7 @@ fn place_of(text: &[u8], byte: u8) -> usize
 
 /// The text before the first byte of this value, and the text after it; none where there is no
 /// such byte.
-fn next_piece(text: &[u8], byte: u8) -> Option<(&[u8], &[u8])>
+pub fn next_piece(text: &[u8], byte: u8) -> Option<(&[u8], &[u8])>
     ensures cut { MatchOption result (pieces byte text.now ≡ text.now ∷ [])
         (λ p. pieces byte text.now ≡ p.0.now ∷ pieces byte p.1.now) }
     ensures shorter { IfSome result (λ p. length p.1.now < length text.now) }

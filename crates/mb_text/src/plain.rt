@@ -1,7 +1,10 @@
 //! Numbers that have exactly one spelling, alone and in lines.
 
 ghost use Rattle.std.specs.Prelude.{◌≡◌, ◌<◌, ◌≤◌, ◌^◌, ◌*◌, ◌+◌, SomeIff, pos};
+ghost use Rattle.std.specs.Char.{is_ascii_digit};
+ghost use Rattle.std.specs.List.{list_all};
 ghost use Rattle.std.specs.Option.{option_and_then, option_map};
+ghost use Rattle.mb_text.specs.LineForms.{is_numeral};
 ghost use Rattle.mb_text.specs.Numerals.{natural_of};
 ghost use Rattle.mb_text.specs.Plain.{at_most, below_zero, is_plain, plain_of, plain_signed_of, size_at_most};
 
@@ -16,6 +19,20 @@ fn is_plain_item(item: &[u8]) -> bool
         [_] => true,
         [first, _, ..] => *first != b'0',
     }
+}
+
+/// Whether each byte is a decimal digit.
+fn are_digits(item: &[u8]) -> bool
+    ensures { result ≡ list_all is_ascii_digit item.now }
+{
+    item.iter().all(|b| is_digit(*b))
+}
+
+/// Whether an item is a number, of any size: decimal without leading zeros.
+pub fn is_numeral(item: &[u8]) -> bool
+    ensures { result ≡ is_numeral item.now }
+{
+    is_plain_item(item) && are_digits(item)
 }
 
 /// A number with one more digit, where it is at most `highest`.
@@ -50,6 +67,28 @@ fn natural_within(digits: &[u8], highest: u128) -> Option<u128>
     Some(n)
 }
 
+/// The same for limits that most numbers have: within these, one more digit fits 64 bits.
+fn short_within(digits: &[u8], highest: u64) -> Option<u64>
+    requires { highest < 2 ^ 60 }
+    ensures { result ≡ at_most highest (natural_of digits.now) }
+{
+    if digits.is_empty() {
+        return None;
+    }
+    let mut n: u64 = 0;
+    for b in digits {
+        if !is_digit(*b) {
+            return None;
+        }
+        let longer = n * 10 + u64::from(*b - 48);
+        if longer > highest {
+            return None;
+        }
+        n = longer;
+    }
+    Some(n)
+}
+
 /// The number that an item is: decimal without leading zeros, and at most `highest`. None for
 /// every other item.
 #[tactic(auto, unfolding(crate::specs::Plain::plain_of))]
@@ -59,7 +98,13 @@ pub fn plain_number(item: &[u8], highest: u128) -> Option<u128>
     if !is_plain_item(item) {
         return None;
     }
-    natural_within(item, highest)
+    if highest >= 1 << 60 {
+        return natural_within(item, highest);
+    }
+    match short_within(item, highest as u64) {
+        None => None,
+        Some(n) => Some(u128::from(n)),
+    }
 }
 
 /// The number that an item is, up to `highest`, as one with a sign.

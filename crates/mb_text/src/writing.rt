@@ -1,7 +1,8 @@
 //! Words, numbers and lines of them, put at the end of a text.
 
-ghost use Rattle.std.specs.Prelude.{◌≡◌, ◌++◌, ◌∷◌, OnOk, map};
+ghost use Rattle.std.specs.Prelude.{◌≡◌, ◌++◌, ◌∷◌, [], OnOk, map};
 ghost use Rattle.std.specs.List.{flat_map, join_with_byte};
+ghost use Rattle.std.specs.Str.{bytes_eq};
 ghost use Rattle.mb_text.specs.Lines.{line};
 
 use itoa::{Buffer, Integer};
@@ -70,4 +71,23 @@ pub fn push_word_line<I: Integer>(
     push_spaced(out, numbers)?;
     out.push(b'\n')?;
     Ok(())
+}
+
+/// Puts a line of a word and one item at the end of a text.
+pub fn push_word_item(out: &mut Vec<u8>, word: &[u8], item: &[u8]) -> Result<(), OutOfMemory>
+    ensures { OnOk result (out.new.items ≡ out.old.items ++ line (word.now ∷ item.now ∷ [])) }
+{
+    push_text(out, word)?;
+    out.push(b' ')?;
+    push_text(out, item)?;
+    out.push(b'\n')?;
+    Ok(())
+}
+
+/// Whether an item is the decimal form of a number.
+pub fn is_written<I: Integer>(item: &[u8], number: I) -> bool
+    ensures { result ≡ bytes_eq item.now (I.text number) }
+{
+    let mut buffer = Buffer::new();
+    item == buffer.format(number).as_bytes()
 }

@@ -1,5 +1,7 @@
 -- The searches of one table and of a ring, step by step.
-use Rattle.std.proofs.Common.{List, Some, inl, length, slice_get, subst, sym, ℕ, ℤ, ◌+◌, ◌≡◌, ◌≤◌, ◌⊎◌}
+use Rattle.std.proofs.Common.{List, Some, [], ap, arith, drop, get_or, inl, length, slice_get, subst, sym, ℕ, ℤ, ◌+◌, ◌-◌, ◌<◌, ◌∙◌, ◌≡◌, ◌≤◌, ◌⊎◌}
+use Rattle.std.proofs.lemmas.List.{get_or-drop, get_or_append_left, length-drop}
+use Rattle.std.proofs.lemmas.Option.{slice_get-get_or}
 use Rattle.mb_tables.specs.Step.{IsNear, Moved, OneApart}
 use Rattle.mb_tables.specs.declared.sign.Sign.TheVariants.{Minus, Plus}
 use Rattle.mb_walk.proofs.PlacesBelow.{NearBelow, SteppedBelow, all-near, all-stepped, below-cases, below-more, some-near, some-stepped, stepped-cases, stepped-more}
@@ -115,3 +117,20 @@ searched-ring moves ring i limit before after old new e s =
     finds-same (NearBelow moves ring i) (IsNear moves ring) before after old new
     (λ v h. some-near moves ring i v h)
     (λ v h. subst (λ k. NearBelow moves ring k v) (sym e) (all-near moves ring v h)) s.finds
+
+-- the table of a ring, where the ring is what stands from a place on
+pub ring-at : (tables : List (List ℕ)) (first place : ℕ) → first ≤ place → place < length tables →
+    slice_get (drop first tables) (place - first) ≡ Some (get_or tables place [])
+ring-at tables first place l m =
+    let e : first + (place - first) ≡ place = omega arith in
+    let n = length-drop first tables in
+    slice_get-get_or (drop first tables) (place - first) [] (omega arith)
+    ∙ ap Some (get_or-drop first tables (place - first) [] ∙ ap (λ k. get_or tables k []) e)
+
+-- the tables at first stay where they are
+pub found-at : (IsSought : List ℕ → Type 0) (limit : ℕ) (before after old new : List (List ℕ))
+    (place : ℕ) → IsSearching IsSought limit before after old new → place < length old →
+    get_or new place [] ≡ get_or old place []
+found-at IsSought limit before after old new place s l =
+    let f = s.finds in
+    ap (λ list. get_or list place []) f.listed ∙ get_or_append_left old f.found [] place l

@@ -41,7 +41,7 @@ module _ (fiber : Ring) (moves : List (List ℤ)) (start : List ℕ) where
   ring_at k = last_ring (to k)
 
   -- a table of ring k is in k steps
-  ring-steps : (k : ℕ) (v : List ℕ) → In v (ring_at k) → IsInSteps moves start k v
+  pub ring-steps : (k : ℕ) (v : List ℕ) → In v (ring_at k) → IsInSteps moves start k v
   unfolding rings_to last_ring In
   ring-steps zero v (inl e) =
       subst (IsInSteps moves start 0) (sym e) (in_steps-none moves start)
@@ -53,7 +53,7 @@ module _ (fiber : Ring) (moves : List (List ℤ)) (start : List ℕ) where
       in_steps-more moves start k near.0 v (ring-steps k near.0 near.1) near.2
 
   -- the tables of rings 0 to k are among those of rings 0 to more
-  tables-more : (k j : ℕ) (v : List ℕ) → In v (tables_of (to k)) → In v (tables_of (to (k + j)))
+  pub tables-more : (k j : ℕ) (v : List ℕ) → In v (tables_of (to k)) → In v (tables_of (to (k + j)))
   unfolding rings_to
   tables-more k zero v i =
       let e : k ≡ k + 0 = omega arith in subst (λ n. In v (tables_of (to n))) e i
@@ -63,7 +63,7 @@ module _ (fiber : Ring) (moves : List (List ℤ)) (start : List ℕ) where
       (In-with_next fiber moves (to (k + j)) v (tables-more k j v i))
 
   -- a table of rings 0 to k is in one of them
-  some-ring : (k : ℕ) (v : List ℕ) → In v (tables_of (to k)) →
+  pub some-ring : (k : ℕ) (v : List ℕ) → In v (tables_of (to k)) →
       (j : ℕ) × (j ≤ k) × In v (ring_at j)
   unfolding rings_to last_ring In
   some-ring zero v (inl e) = (0, omega arith, inl e)

@@ -7,6 +7,7 @@ use Rattle.mb_tables.specs.Chain.{Joined}
 use Rattle.mb_tables.specs.Lists.{In}
 use Rattle.mb_walk.specs.Distance.{IsAtDistance}
 use Rattle.mb_walk.specs.Ring.{reached, rings_of}
+use Rattle.mb_walk.specs.ShortestPath.{IsLeastPath}
 
 -- by moves of the matrix, a table is reached from the start exactly where they join it to the
 -- start
@@ -49,3 +50,9 @@ MarkovBasisReachesFiber =
     (moves : List (List ℤ)) → IsMarkovBasis matrix moves →
     (start : List ℕ) → length start ≡ length matrix.columns →
     (v : List ℕ) → In v (reached matrix moves start) ↔ In v (fiber_of matrix start)
+
+-- there is one least path between two tables at most
+abbrev pub LeastPathIsOne : Type 0
+LeastPathIsOne =
+    (moves : List (List ℤ)) (u v : List ℕ) (first second : List ℤ) →
+    IsLeastPath moves u first v → IsLeastPath moves u second v → first ≡ second

@@ -4,6 +4,7 @@ ghost use Rattle.std.specs.Prelude.{◌≡◌, ◌≤◌, IfErr, OnOk, length};
 ghost use Rattle.mb_tables.specs.Step.{Moved, OneApart};
 ghost use Rattle.mb_walk.specs.Walk.{most_tables};
 ghost use Rattle.mb_walk.specs.loops.Found.{FindsMore, IsSearchFault};
+ghost use Rattle.mb_walk.specs.loops.InTurn.{AddsInTurn, turns_of};
 
 use crate::fault::WalkFault;
 use crate::visited::Visited;
@@ -63,6 +64,33 @@ fn take_step(
     Ok(())
 }
 
+/// Adds the tables that are one step from a table, where they are new: what move 1 makes of it,
+/// added and then subtracted, then what move 2 does, and so on. The table is moved and moved back.
+pub fn take_steps(
+    table: &mut Table,
+    moves: &Moves,
+    limit: u32,
+    visited: &mut Visited,
+    next: &mut Vec<Table>,
+) -> Result<(), WalkFault>
+    requires width { length table.old ≡ moves.now.width }
+    requires room { length visited.old ≤ limit }
+    requires small { limit ≤ most_tables }
+    ensures found { OnOk result (FindsMore (OneApart moves.now.rows table.old)
+        visited.old visited.new next.old.items next.new.items) }
+    ensures in_turn { OnOk result (AddsInTurn moves.now.rows table.old
+        (turns_of (length moves.now.rows)) visited.old next.old.items next.new.items) }
+    ensures room { OnOk result (length visited.new ≤ limit) }
+    ensures refused { IfErr result (IsSearchFault (OneApart moves.now.rows table.old)
+        limit visited.old) }
+{
+    for z in moves.as_slice() {
+        take_step(table, z, Sign::Plus, limit, visited, next)?;
+        take_step(table, z, Sign::Minus, limit, visited, next)?;
+    }
+    Ok(())
+}
+
 /// Adds the tables that are one step from a table, where they are new.
 pub fn expand(
     table: &Table,
@@ -81,9 +109,5 @@ pub fn expand(
         limit visited.old) }
 {
     let mut scratch = table.try_copy()?;
-    for z in moves.as_slice() {
-        take_step(&mut scratch, z, Sign::Plus, limit, visited, next)?;
-        take_step(&mut scratch, z, Sign::Minus, limit, visited, next)?;
-    }
-    Ok(())
+    take_steps(&mut scratch, moves, limit, visited, next)
 }

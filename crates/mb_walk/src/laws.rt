@@ -2,6 +2,7 @@
 
 ghost use Rattle.mb_walk.specs.Laws.{
   EachIsReachedOnce,
+  LeastPathIsOne,
   MarkovBasisReachesFiber,
   ReachedIsJoined,
   RingsAreByDistance,
@@ -33,4 +34,9 @@ pub fn rings_are_by_distance()
 /// Law: a Markov basis reaches exactly the fiber of the start.
 pub fn markov_basis_reaches_fiber()
     ensures { MarkovBasisReachesFiber }
+{}
+
+/// Law: between two tables there is one least path at most.
+pub fn least_path_is_one()
+    ensures { LeastPathIsOne }
 {}

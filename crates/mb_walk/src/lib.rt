@@ -1,19 +1,31 @@
 //! The breadth-first walk of the fiber graph: the tables that moves reach from a start, ring by
-//! ring.
+//! ring; the least path between two tables; and moves beside a certificate.
 #![tactic(auto)]
 
+mod beside_fault;
+mod beside_moves;
+mod between_tables;
 mod breadth_first;
+mod connection;
+mod copies;
 mod expand;
 mod fault;
+mod given_paths;
 mod laws;
 mod next;
 mod rings;
+mod tree;
 mod visited;
+mod way_back;
 
+pub use beside_fault::BesideFault;
+pub use beside_moves::beside;
+pub use between_tables::between;
 pub use breadth_first::walk;
+pub use connection::Between;
 pub use fault::WalkFault;
 pub use laws::{
-    each_is_reached_once, markov_basis_reaches_fiber, reached_is_joined, rings_are_by_distance,
-    rings_ascend,
+    each_is_reached_once, least_path_is_one, markov_basis_reaches_fiber, reached_is_joined,
+    rings_are_by_distance, rings_ascend,
 };
 pub use rings::Rings;

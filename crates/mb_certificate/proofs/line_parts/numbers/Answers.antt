@@ -6,7 +6,7 @@ use Rattle.mb_certificate.proofs.line_parts.numbers.Goals as goal
 
 pub returns-in_err-one-clause-numbers : goal.returns-in_err-one-clause-numbers
 returns-in_err-one-clause-numbers g c =
-    gives-handed_on read_cause _ _ c.in_err-one.field-0.0 _ c.from_residual.ensures.1
+    gives-handed_on read_cause _ _ c.in_err-one.field-0.0 _ c.from_residual-in_err-one.ensures.1
     (one_wrong (one g.N.ItemNumber.of_item) c.loop.numbers.items c.args.count c.loop.counter
     c.loop.items (times (one g.N.ItemNumber.of_item) c.args.count c.args.items.now)
     c.loop.invariant.read (read_cause c.in_err-one.field-0.0) c.loop-test.true c.in_err-one.ensures)

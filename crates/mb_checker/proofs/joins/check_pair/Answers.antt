@@ -17,11 +17,11 @@ pair_fault-requires-clause-turn c =
 pub returns-in-Some-clause-wrong : goal.returns-in-Some-clause-wrong
 returns-in-Some-clause-wrong c =
     first-wrong c.args.line (join_lines c.args.certificate.now) c.args.next c.in-Some.reason
-    c.requires.met.right (c.in_ok-reason.ensures.line ∙ ap Some c.in-Some.is)
+    c.requires.met.right (c.pair_fault.ensures.line ∙ ap Some c.in-Some.is)
 
 pub returns-clause-met : goal.returns-clause-met
 returns-clause-met c =
     met-counted c.args.certificate.now c.args.low c.args.high c.args.next c.requires.met
     (sym c.is_shared.ensures ∙ c.if-not-is_shared.false)
-    (c.in_ok-reason.ensures.line ∙ ap Some c.in_default.is)
-    (c.in_ok-reason.ensures.there c.in_default.is)
+    (c.pair_fault.ensures.line ∙ ap Some c.in_default.is)
+    (c.pair_fault.ensures.there c.in_default.is)

@@ -8,4 +8,4 @@ returns-clause-met c =
     let parts = c.args.certificate.now in
     let e : c.loop-low.low ≡ c.args.high = omega arith in
     met-row parts c.args.high c.loop-low.judged
-    (subst (λ i. AreMet parts i c.args.high c.loop-low.judged) e c.loop-low.invariant)
+    (subst (λ i. AreMet parts i c.args.high c.loop-low.judged) e c.loop-low.invariant.met)

@@ -35,4 +35,4 @@ returns-clause-line c =
     let here = ap (λ xs. slice_get xs c.args.next) (sym c.joins-joins.ensures.joins)
     ∙ item-get joins c.args.next c.index-joins-next.result l c.index-joins-next.is in
     pair-same parts c.args.low c.args.high c.args.next c.requires.turn c.index-joins-next.result
-    here (sym c.is_of.ensures ∙ c.if-not-is_of.false) ∙ ap Some (sym c.in_ok-peak_fault.ensures)
+    here (sym c.is_of.ensures ∙ c.if-not-is_of.false) ∙ ap Some (sym c.peak_fault.ensures.fault)

@@ -9,8 +9,8 @@ use Rattle.mb_order.specs.Peak.{peak, sides_of}
 use Rattle.mb_order.specs.Rewriting.{made}
 use Rattle.mb_order.specs.Weight.{IsLight}
 
-pub returns : goal.returns
-returns c =
+pub returns-clause-fault : goal.returns-clause-fault
+returns-clause-fault c =
     let parts = c.args.certificate.now in
     let rules = parts.rules in
     let join = c.args.join.now in
@@ -26,17 +26,17 @@ returns c =
     let judged : c.ends_fault.result
     ≡ ends_fault PairNotJoined (replay rules join.low_steps first)
     (replay rules join.high_steps second) = search proof_rules in
-    let same = c.in_ok-first.ensures.list in
+    let same = c.put_peak.ensures.list in
     let light = subst (IsLight parts.matrix) same
-    (subst (λ (d : Design). IsLight d c.in_ok-first.first.list) c.matrix.ensures.matrix
+    (subst (λ (d : Design). IsLight d c.put_peak.new.m.list) c.matrix.ensures.matrix
     c.if-not-is_light.ensures.light) in
-    let copied = ap (λ (m : Exponents). m.list) c.in_ok-second.ensures ∙ same in
+    let copied = ap (λ (m : Exponents). m.list) c.copy_from.ensures ∙ same in
     let first_there : i < length rules = (let l = c.requires.low in omega arith) in
     let second_there : j < length rules = (let l = c.requires.high in omega arith) in
-    let e = step-made_at rules i c.in_ok-first.first.list top first (made low top)
+    let e = step-made_at rules i c.put_peak.new.m.list top first (made low top)
     c.step.result same c.step.ensures.made c.step.ensures.none
     (divisor-rewritten rules i top first_there (low-divides low high)) in
-    let f = step-made_at rules j c.in_ok-second.second.list top second (made high top)
+    let f = step-made_at rules j c.copy_from.new.self.list top second (made high top)
     c.step-2.result copied c.step-2.ensures.made c.step-2.ensures.none
     (divisor-rewritten rules j top second_there (high-divides low high)) in
     judged ∙ peak-judged parts.matrix rules join low high first second light e f

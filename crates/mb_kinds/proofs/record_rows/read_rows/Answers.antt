@@ -1,8 +1,9 @@
 use Rattle.std.proofs.Common.{ap, arith, length, length-append, sym, ◌++◌, ◌+◌, ◌-◌, ◌∙◌, ◌≡◌}
 use Rattle.mb_tables.proofs.HandedOn.{gives-handed_on}
 use Rattle.mb_kinds.proofs.RowReading.{refused_on, row_read, row_wrong, rows_read, with_front}
-use Rattle.mb_kinds.specs.RecordText.{record_cause, row_in, rows_in, says}
+use Rattle.mb_kinds.specs.RecordText.{row_in, rows_in}
 use Rattle.mb_text.specs.Lines.{lines}
+use Rattle.mb_text.specs.RecordLines.{record_cause, says}
 use Rattle.mb_kinds.proofs.record_rows.read_rows.Goals as goal
 
 pub returns-in_err-entries_of_row-clause-rows : goal.returns-in_err-entries_of_row-clause-rows

@@ -1,11 +1,19 @@
-use Rattle.std.proofs.Common.{ap, sym, ◌∙◌}
-use Rattle.mb_order.proofs.SymbolSets.{same_set}
+use Rattle.std.proofs.Common.{sym, ◌∙◌}
+use Rattle.mb_order.proofs.ExponentLaws.{differs-by, divides-same, same-by}
 use Rattle.mb_order.proofs.monomial.Monomial.is_same.Goals as goal
-use Rattle.mb_order.specs.Monomial.{Exponents}
 
-pub returns-then-self-symbols-clause-differs : goal.returns-then-self-symbols-clause-differs
-returns-then-self-symbols-clause-differs c e =
-    c.if-self-symbols.true
-    (same_set c.self.inside.set c.other.inside.set c.self.inside.exponents.items
-    c.other.inside.exponents.items c.self.invariant.occurring c.other.invariant.occurring
-    (ap (λ (x : Exponents). x.list) (c.self.view_is ∙ e ∙ sym c.other.view_is)))
+pub returns-then-not-divides-clause-differs : goal.returns-then-not-divides-clause-differs
+returns-then-not-divides-clause-differs c e =
+    let divides = divides-same c.args.self.now c.args.other.now e in
+    let f = c.divides.ensures in
+    let g = c.if-not-divides.true in
+    absurd cc
+
+pub returns-clause-same : goal.returns-clause-same
+returns-clause-same c =
+    same-by c.args.self.now c.args.other.now _ c.requires
+    (sym c.divides.ensures ∙ c.if-not-divides.false) c.divides-2.ensures
+
+pub returns-clause-differs : goal.returns-clause-differs
+returns-clause-differs c =
+    differs-by c.args.self.now c.args.other.now _ c.divides-2.ensures

@@ -5,6 +5,7 @@ use Rattle.mb_order.proofs.WeightLaws.{weight}
 use Rattle.mb_order.proofs.monomial.Monomial.weight.Goals as goal
 use Rattle.mb_order.specs.Weight.{weights}
 use Rattle.mb_tables.proofs.VectorLaws.{at-plus}
+use Rattle.mb_tables.specs.Margin.{margin}
 use Rattle.mb_tables.specs.Vectors.{at}
 
 pub returns : goal.returns
@@ -18,7 +19,8 @@ returns c =
     let s = c.rows.ensures.sound in
     ap (λ n. n + c.cells_weight.result) c.from.ensures
     ∙ ap (λ n. get_or own row 0 + n)
-    (c.cells_weight.ensures.weight ∙ sym (at-margins matrix.rows matrix.columns cells row))
+    (c.cells_weight.ensures.weight ∙ ap (λ entries. margin entries cells) c.row.ensures.entries
+    ∙ sym (at-margins matrix.rows matrix.columns cells row))
     ∙ sym (at-plus own (margins_of matrix cells) row)
     ∙ ap (λ u. at u row)
     (sym (weight matrix.rows matrix.columns own cells s.each

@@ -1,0 +1,15 @@
+pub mod Claiming
+pub mod Gathering
+pub mod Growing
+pub mod NewWords
+pub mod Occurrences
+pub mod Pigeonhole
+pub mod ProbeSteps
+pub mod Refilling
+pub mod RootKnows
+pub mod RootSteps
+pub mod Runs
+pub mod SeatSums
+pub mod Splitting
+pub mod ViewSteps
+pub mod WordSteps

@@ -1,0 +1,12 @@
+pub mod ClaimRule
+pub mod ClaimStep
+pub mod Claims
+pub mod Closed
+pub mod Laws
+pub mod Limits
+pub mod Lists
+pub mod Notes
+pub mod Probe
+pub mod Run
+pub mod View
+pub mod loops

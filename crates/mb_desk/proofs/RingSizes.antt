@@ -1,0 +1,27 @@
+-- The sizes of rings.
+use Rattle.std.proofs.Common.{List, Some, [], ap, arith, length, map, slice_get, suc, sum_by, take, zero, ℕ, ◌++◌, ◌∷◌, ◌≡◌, ◌≤◌}
+use Rattle.std.proofs.lemmas.List.Sums.{sum_by-cons}
+use Rattle.mb_walk.specs.Ring.{Ring}
+
+-- the size of one ring more
+pub sizes-more : (rings : List Ring) (k : ℕ) (ring : Ring) → slice_get rings k ≡ Some ring →
+    map (length {A = List ℕ}) (take (suc k) rings)
+    ≡ map (length {A = List ℕ}) (take k rings) ++ length ring ∷ []
+sizes-more [] k ring e = absurd (cc)
+sizes-more (first ∷ rings) zero ring e =
+    let same : first ≡ ring = cc in ap (λ r. length r ∷ []) same
+sizes-more (first ∷ rings) (suc k) ring e =
+    ap (λ sizes. length first ∷ sizes) (sizes-more rings k ring e)
+
+-- no ring has more tables than all of them
+pub size-within : (rings : List Ring) (k : ℕ) (ring : Ring) → slice_get rings k ≡ Some ring →
+    length ring ≤ sum_by (length {A = List ℕ}) rings
+size-within [] k ring e = absurd (cc)
+size-within (first ∷ rings) zero ring e =
+    let all = sum_by-cons (length {A = List ℕ}) first rings in
+    let same = ap (λ r. length r) (let own : first ≡ ring = cc in own) in
+    omega (arith, all, same)
+size-within (first ∷ rings) (suc k) ring e =
+    let all = sum_by-cons (length {A = List ℕ}) first rings in
+    let rest = size-within rings k ring e in
+    omega (arith, all, rest)

@@ -1,8 +1,0 @@
-use Rattle.std.proofs.Common.{ap, length, ◌==◌, ◌∙◌}
-use Rattle.mb_kinds.proofs.PieceCases.{ends_not}
-use Rattle.mb_kinds.proofs.record_measure.read_end.Goals as goal
-
-pub returns-else-is_empty : goal.returns-else-is_empty
-returns-else-is_empty c =
-    ends_not c.args.number c.args.text.now
-    (λ none. let e = c.if-is_empty.ensures ∙ ap (λ text. length text == 0) none in cc)
