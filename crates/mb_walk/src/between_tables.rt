@@ -37,17 +37,17 @@ fn goes_on(tree: &Tree, first: usize, sought: &Table) -> bool
     first < tree.tables.len() && !tree.visited.contains(sought)
 }
 
-/// The least path from one table to another of equal margins, by moves of the matrix: a shortest
-/// one, and among these the one whose list of steps is lexicographically least, where steps are
-/// compared by the number of the move, and for one move adding comes before subtracting.
+/// The least path from one table to another of equal margins, by given moves of the matrix. Paths
+/// are compared by length, and those of one length step by step: a lower number of a move comes
+/// first, and of one move its sum before its difference (shortlex order).
 ///
 /// Tables and moves have the matrix's cells, each move keeps all margins, and each margin of the
 /// tables fits 32 bits. The limit is 1 to 100,000 tables.
 ///
-/// The answer is `Apart` exactly where the tables that are reached from the first are within the
-/// limit and the second isn't one of them. `TooLarge` comes exactly where some rings 0 to m of the
-/// first hold more tables than the limit together, and the second is in none of the rings before
-/// the least such m.
+/// `Apart`: all that the moves reach from the first table is within the limit, and the second is
+/// missing there. `TooLarge`: the tables up to some distance from the first are within the limit
+/// and the second is missing among them, and with those one step farther the limit is passed. Each
+/// of the two comes exactly there. Want of memory can come in place of any answer.
 pub fn between(
     alloc: Global,
     matrix: &Matrix,
