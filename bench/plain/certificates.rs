@@ -1,7 +1,8 @@
 //! Certificates made, read and checked as a plain Rust program: the yardstick of bench/certificates.
 //!
 //! The words are `make MATRIX ORDER`, with a matrix in 4ti2 text and `lex` or `grevlex`, which prints a certificate;
-//! `read FILE`, which prints its numbers of rules, moves and joins; and `check FILE`, which also checks it. Monomials
+//! `read FILE`, which prints its numbers of rules, moves and joins; `check FILE`, which also checks it; and `beside FILE
+//! MOVES TIMES`, which checks it, puts the moves of a 4ti2 text beside it so many times and prints the paths. Monomials
 //! are dense, `[u16; 128]`, each rule has the set of its left side's symbols, and every trace has a vector of its own.
 use completion::{Monomial, Problem, Rule, peak, rewrite};
 use std::io::Write;
@@ -9,17 +10,20 @@ use std::io::Write;
 mod certificate_check;
 mod certificate_text;
 mod completion;
+mod given_moves;
 
 /// Looks that a completion may take.
 const LOOKS: u32 = 1_000_000;
 
 /// The steps of a start: from the column's margins, and from the cell.
+#[derive(Clone)]
 pub struct Start {
     pub margin_steps: Vec<u32>,
     pub cell_steps: Vec<u32>,
 }
 
 /// A pair of rules with the steps from what each makes of their peak.
+#[derive(Clone)]
 pub struct Join {
     pub low: u32,
     pub high: u32,
@@ -28,6 +32,7 @@ pub struct Join {
 }
 
 /// A rule with the signed moves from its left side to its right side.
+#[derive(Clone)]
 pub struct Path {
     pub rule: u32,
     pub steps: Vec<i64>,
@@ -126,6 +131,16 @@ fn answer(text: &[u8], checked: bool) -> String {
     }
 }
 
+/// The answer to moves beside a certificate, which is right.
+fn beside(text: &[u8], moves: &str, times: u32) -> String {
+    match certificate_text::read(text) {
+        Ok(certificate) if certificate_check::check(&certificate).is_ok() => {
+            given_moves::answer(&certificate, &given_moves::Moves::of(moves), times)
+        }
+        _ => "refused\n".to_string(),
+    }
+}
+
 fn main() {
     let words: Vec<String> = std::env::args().collect();
     let text = std::fs::read(&words[2]).unwrap();
@@ -133,6 +148,10 @@ fn main() {
         "make" => made(std::str::from_utf8(&text).unwrap(), &words[3]),
         "read" => answer(&text, false).into_bytes(),
         "check" => answer(&text, true).into_bytes(),
+        "beside" => {
+            let moves = std::fs::read_to_string(&words[3]).unwrap();
+            beside(&text, &moves, words[4].parse().unwrap()).into_bytes()
+        }
         word => panic!("no such word: {word}"),
     };
     std::io::stdout().write_all(&printed).unwrap();

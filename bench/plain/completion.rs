@@ -7,6 +7,7 @@ use std::cmp::Ordering;
 pub type Monomial = [u16; 128];
 
 /// A matrix with an order, and whether rules have sets of symbols.
+#[derive(Clone)]
 pub struct Problem {
     pub sets: bool,
     pub lex: bool,
@@ -16,6 +17,7 @@ pub struct Problem {
 }
 
 /// A rule with the set of its left side's symbols, which is tested first, or an empty one that every set has.
+#[derive(Clone)]
 pub struct Rule {
     pub left: Monomial,
     pub right: Monomial,

@@ -1,15 +1,12 @@
 //! The numbers of exact tests.
 
-ghost use Rattle.std.specs.Prelude.{◌≡◌, ◌<◌, ◌^◌, All, IfOk, length};
-ghost use Rattle.std.specs.Bool.{OnTrue};
-ghost use Rattle.mb_matrix.specs.Matrix.{margins_of};
+ghost use Rattle.std.specs.Prelude.{◌≡◌, IfOk};
 ghost use Rattle.mb_matrix.specs.Measure.{IsMeasureOf};
 
+use crate::models::{certificate_of, has_small_margins, matrix_of};
 use mb_certificate::{Certificate, Reason, read};
-use mb_completion::{complete, make};
 use mb_desk::{Figures, NumbersFault, numbers};
 use mb_matrix::{Matrix, Measure, Scale};
-use mb_moves::read_matrix;
 use mb_order::Order;
 use mb_outside::NoGate;
 use mb_tables::Table;
@@ -19,14 +16,16 @@ use std::thread::Threads;
 
 /// What is tested: a model, a table and a limit.
 #[derive(Clone, Copy)]
-struct Sample {
+pub(crate) struct Sample<'a> {
     /// The text of the design matrix.
-    matrix: &'static [u8],
+    pub(crate) matrix: &'a str,
+    /// The order that completes its rules.
+    pub(crate) order: Order,
     /// The rows of the scale; where there are none, it is that of all cells.
-    scale: &'static [u32],
-    base: &'static [u32],
-    table: &'static [u32],
-    limit: u32,
+    pub(crate) scale: &'a [u32],
+    pub(crate) base: &'a [u32],
+    pub(crate) table: &'a [u32],
+    pub(crate) limit: u32,
 }
 
 /// What is wanted of it.
@@ -47,13 +46,13 @@ enum Wanted {
 }
 
 /// The independence of two factors of two levels.
-const TWO_BY_TWO: &[u8] = b"4 4 1 1 0 0 0 0 1 1 1 0 1 0 0 1 0 1";
+const TWO_BY_TWO: &str = "4 4 1 1 0 0 0 0 1 1 1 0 1 0 0 1 0 1";
 
 /// Hardy and Weinberg's law for two alleles.
-const TWO_ALLELES: &[u8] = b"2 3 2 1 0 0 1 2";
+const TWO_ALLELES: &str = "2 3 2 1 0 0 1 2";
 
 /// The quasi-independence of two factors of three levels, off the diagonal.
-const OFF_DIAGONAL: &[u8] = b"6 6
+const OFF_DIAGONAL: &str = "6 6
 1 1 0 0 0 0
 0 0 1 1 0 0
 0 0 0 0 1 1
@@ -62,7 +61,7 @@ const OFF_DIAGONAL: &[u8] = b"6 6
 0 1 0 1 0 0";
 
 /// No three-way interaction of three factors of two levels.
-const THREE_WAY: &[u8] = b"12 8
+const THREE_WAY: &str = "12 8
 1 1 0 0 0 0 0 0
 0 0 1 1 0 0 0 0
 0 0 0 0 1 1 0 0
@@ -77,7 +76,7 @@ const THREE_WAY: &[u8] = b"12 8
 0 0 0 1 0 0 0 1";
 
 /// The independence of two factors of four levels.
-const FOUR_BY_FOUR: &[u8] = b"8 16
+const FOUR_BY_FOUR: &str = "8 16
 1 1 1 1 0 0 0 0 0 0 0 0 0 0 0 0
 0 0 0 0 1 1 1 1 0 0 0 0 0 0 0 0
 0 0 0 0 0 0 0 0 1 1 1 1 0 0 0 0
@@ -91,25 +90,14 @@ const FOUR_BY_FOUR: &[u8] = b"8 16
 const PATH: &[u32] = &[1; 66];
 
 /// A table of two factors of two levels, sampled by rows.
-fn square(table: &'static [u32], limit: u32) -> Sample {
+fn square(table: &'static [u32], limit: u32) -> Sample<'static> {
     Sample {
         matrix: TWO_BY_TWO,
+        order: Order::Grevlex,
         scale: &[1, 2],
         base: &[1; 4],
         table,
         limit,
-    }
-}
-
-/// The design matrix of a text.
-fn matrix_of(alloc: Global, text: &[u8]) -> Result<Matrix, Fail> {
-    let Ok(grid) = read_matrix(alloc, text) else {
-        return Err(Fail::from("no matrix"));
-    };
-    let entries = grid.entries.as_slice();
-    match Matrix::try_new(alloc, grid.rows, grid.cols, entries) {
-        Ok(matrix) => Ok(matrix),
-        Err(_) => Err(Fail::from("no design matrix")),
     }
 }
 
@@ -128,30 +116,6 @@ fn measure_of(alloc: Global, matrix: &Matrix, scale: &[u32], base: &[u32]) -> Re
     match Measure::try_new(alloc, matrix, scale, base) {
         Ok(measure) => Ok(measure),
         Err(_) => Err(Fail::from("no measure")),
-    }
-}
-
-/// The certificate of a matrix, completed by grevlex.
-fn certificate_of(alloc: Global, matrix: &Matrix) -> Result<Certificate, Fail>
-    ensures { IfOk result (λ c. c.matrix ≡ matrix.now) }
-{
-    let Ok(completed) = complete(alloc, matrix, Order::Grevlex, 1_000_000) else {
-        return Err(Fail::from("not completed"));
-    };
-    match make(alloc, matrix, &completed) {
-        Ok(certificate) => Ok(certificate),
-        Err(_) => Err(Fail::from("no memory")),
-    }
-}
-
-/// Whether each margin of a table fits 32 bits.
-fn has_small_margins(alloc: Global, matrix: &Matrix, table: &Table) -> bool
-    requires { length table.now ≡ length matrix.now.columns }
-    ensures { OnTrue result (All (λ margin. margin < 2 ^ 32) (margins_of matrix.now table.now)) }
-{
-    match matrix.margins(alloc, table) {
-        Ok(margins) => margins.iter().all(|margin| *margin < 4_294_967_296),
-        Err(_) => false,
     }
 }
 
@@ -178,14 +142,14 @@ fn numbers_by<R: Threads + Sync>(
 }
 
 /// The numbers of a sample.
-fn numbers_of<R: Threads + Sync>(
+pub(crate) fn numbers_of<R: Threads + Sync>(
     rt: &R,
     alloc: Global,
-    sample: &Sample,
+    sample: &Sample<'_>,
 ) -> Result<Result<Figures, NumbersFault>, Fail> {
     let matrix = matrix_of(alloc, sample.matrix)?;
     let measure = measure_of(alloc, &matrix, sample.scale, sample.base)?;
-    let certificate = certificate_of(alloc, &matrix)?;
+    let certificate = certificate_of(alloc, &matrix, sample.order)?;
     numbers_by(
         rt,
         alloc,
@@ -197,7 +161,7 @@ fn numbers_of<R: Threads + Sync>(
 }
 
 /// The number of tables in all rings.
-fn total(rings: &[u32]) -> u32 {
+pub(crate) fn total(rings: &[u32]) -> u32 {
     let mut total = 0u32;
     for size in rings {
         total = total.saturating_add(*size);
@@ -232,7 +196,7 @@ fn are_wanted(found: &Result<Figures, NumbersFault>, wanted: &Wanted) -> bool {
 fn has<R: Threads + Sync>(
     rt: &R,
     alloc: Global,
-    sample: Sample,
+    sample: Sample<'static>,
     wanted: Wanted,
 ) -> Result<bool, Fail> {
     let found = numbers_of(rt, alloc, &sample)?;
@@ -290,9 +254,10 @@ fn two_by_two(rt: HostRuntime) -> Result<(), Fail> {
 }
 
 /// A table of the law of Hardy and Weinberg: genotypes of two alleles, one sample.
-fn genotypes(table: &'static [u32]) -> Sample {
+fn genotypes(table: &'static [u32]) -> Sample<'static> {
     Sample {
         matrix: TWO_ALLELES,
+        order: Order::Grevlex,
         scale: &[],
         base: &[1, 2, 1],
         table,
@@ -301,9 +266,10 @@ fn genotypes(table: &'static [u32]) -> Sample {
 }
 
 /// A table of two factors of three levels, off the diagonal.
-fn off_diagonal(table: &'static [u32]) -> Sample {
+fn off_diagonal(table: &'static [u32]) -> Sample<'static> {
     Sample {
         matrix: OFF_DIAGONAL,
+        order: Order::Grevlex,
         scale: &[1, 2, 3],
         base: &[1; 6],
         table,
@@ -350,6 +316,7 @@ fn larger_tables(rt: HostRuntime) -> Result<(), Fail> {
     let (rt, alloc) = (&rt, rt.alloc());
     let diagonal = Sample {
         matrix: FOUR_BY_FOUR,
+        order: Order::Grevlex,
         scale: &[1, 2, 3, 4],
         base: &[1; 16],
         table: &[3, 0, 0, 0, 0, 3, 0, 0, 0, 0, 3, 0, 0, 0, 0, 3],
@@ -364,6 +331,7 @@ fn larger_tables(rt: HostRuntime) -> Result<(), Fail> {
     };
     let cube = Sample {
         matrix: THREE_WAY,
+        order: Order::Grevlex,
         scale: &[1, 2, 3, 4],
         base: &[1; 8],
         table: &[1; 8],
@@ -399,7 +367,7 @@ fn one_margin<R: Threads + Sync>(
     let base = vec![in alloc; 1u32; 64]?;
     let matrix = Matrix::try_new(alloc, 1, 64, ones.as_slice())?;
     let measure = measure_of(alloc, &matrix, &[], base.as_slice())?;
-    let certificate = certificate_of(alloc, &matrix)?;
+    let certificate = certificate_of(alloc, &matrix, Order::Grevlex)?;
     let counts = three_at_first(alloc)?;
     numbers_by(rt, alloc, &certificate, &measure, counts.as_slice(), 45_760)
 }
