@@ -39,7 +39,7 @@ sides-are : (rules : List Rule) (k : ℕ) (rule : Rule) → slice_get rules k �
 sides-are rules k rule e = ap (λ o. (left_in o, right_in o)) e
 
 -- a signed number leads one step
-moved-apart : (moves : List (List ℤ)) (step : ℤ) (u v : List ℕ) → MovesBy moves step u v →
+pub moved-apart : (moves : List (List ℤ)) (step : ℤ) (u v : List ℕ) → MovesBy moves step u v →
     OneApart moves u v
 moved-apart moves (pos zero) u v h = absurd h
 moved-apart moves (pos (suc k)) u v h = (k, h.0, h.1, inl h.2)

@@ -16,4 +16,6 @@ mod walking;
 
 pub use checking::check;
 pub use mb_certificate::Reason;
+pub use paths::is_free;
 pub use verdict::Verdict;
+pub use walking::table_of;

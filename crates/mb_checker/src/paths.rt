@@ -76,7 +76,7 @@ fn path_fault(
 }
 
 /// Whether neither side of a rule has a symbol of a margin.
-fn is_free(certificate: &Certificate, k: u32) -> bool
+pub fn is_free(certificate: &Certificate, k: u32) -> bool
     requires { k < length certificate.now.rules }
     ensures { result ≡ is_free certificate.now.matrix.rows certificate.now.rules k }
 {

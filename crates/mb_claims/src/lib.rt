@@ -12,6 +12,7 @@ mod old_words;
 mod rule;
 mod seats;
 mod shards;
+mod sizes;
 mod views;
 
 pub use claim::Claim;

@@ -1,6 +1,6 @@
 -- A run ends as is computed. A normal form is computed by its own trace, which is no longer than its
 -- class has members; so each look adds what is computed, and the run goes on with the same rules.
-use Rattle.std.proofs.Common.{Bool, List, None, Option, Some, [], ap, arith, cond, false, inl, inr, length, not, refl, slice_get, subst, suc, sym, true, zero, ℕ, ◌++◌, ◌+◌, ◌<◌, ◌∙◌, ◌∷◌, ◌≡◌, ◌≤◌}
+use Rattle.std.proofs.Common.{Bool, List, None, Option, Some, [], ap, arith, cond, false, inl, inr, length, not, refl, slice_get, subst, suc, sym, true, zero, ℕ, ◌++◌, ◌+◌, ◌∙◌, ◌∷◌, ◌≡◌, ◌≤◌}
 use Rattle.std.specs.List.{find, position_or_len}
 use Rattle.std.specs.Option.{option_map, option_map_or}
 use Rattle.std.specs.Ordering.{ordering_reverse}
@@ -13,7 +13,7 @@ use Rattle.mb_completion.proofs.LookSteps.{sides-get}
 use Rattle.mb_completion.proofs.Looks.{fit, look_valid, ordered}
 use Rattle.mb_completion.proofs.Reducing.{leads-same}
 use Rattle.mb_completion.specs.Outcome.{at_pair, look_adds, lowered, lowered_by, normal_form, outcome_from, rule_between}
-use Rattle.mb_completion.specs.Run.{Adds, Finished, IsLook, Outcome, Runs, TooHeavy, Unfinished}
+use Rattle.mb_completion.specs.Run.{Adds, IsLook, Outcome, Runs, TooHeavy, Unfinished}
 use Rattle.mb_matrix.specs.Fiber.{AreColumns, fill, margins}
 use Rattle.mb_matrix.specs.Matrix.{Design, IsDesign}
 use Rattle.mb_order.proofs.PeakLaws.{old_places}
@@ -45,7 +45,7 @@ find-place test (x ∷ xs) =
     find-here (test x) x xs (find test xs) (position_or_len test xs) (find-place test xs)
 
 -- past its end a list has nothing
-none-at-end : {X : Type 0} (xs : List X) → slice_get xs (length xs) ≡ None
+pub none-at-end : {X : Type 0} (xs : List X) → slice_get xs (length xs) ≡ None
 none-at-end [] = refl
 none-at-end (x ∷ xs) = none-at-end xs
 
@@ -53,7 +53,7 @@ module _ (d : ℕ) (columns : List (List ℕ)) (compare : Monomial → Monomial 
     Ordering) (rules : List Rule) (fits : AreColumns d columns)
     (order : IsOrder (length columns) compare) (valid : AreValid d columns compare rules) where
   -- where a rule is the first that fits, it is what lowers the monomial
-  lowered-at : (m : Monomial) (k : ℕ) →
+  pub lowered-at : (m : Monomial) (k : ℕ) →
       position_or_len (λ (rule : Rule). within rule.0 m) rules ≡ k →
       lowered rules m ≡ option_map (λ (rule : Rule). made rule m) (slice_get rules k)
   lowered-at m k e =
@@ -83,7 +83,7 @@ module _ (d : ℕ) (columns : List (List ℕ)) (compare : Monomial → Monomial 
       ∙ lowered-along trace steps h.0 p wide h.3 (omega (arith, l))
 
   -- a trace is no longer than the rank
-  trace-short : (trace : List ℕ) (m p : Monomial) → length m ≡ length columns →
+  pub trace-short : (trace : List ℕ) (m p : Monomial) → length m ≡ length columns →
       NormalBy rules trace m p → length trace ≤ rank d columns compare m
   unfolding NormalBy
   trace-short [] m p w h = omega arith
@@ -105,7 +105,7 @@ module _ (d : ℕ) (columns : List (List ℕ)) (compare : Monomial → Monomial 
 
 module _ (matrix : Design) (order : Order) (are : IsDesign matrix) where
   -- the normal form of a monomial is one by some trace, and as wide
-  form-normal : (rules : List Rule) → ValidRules order matrix rules → (m : Monomial) →
+  pub form-normal : (rules : List Rule) → ValidRules order matrix rules → (m : Monomial) →
       length m ≡ length (symbols_of matrix) →
       ((trace : List ℕ) × NormalBy rules trace m (normal_form matrix rules m))
       × (length (normal_form matrix rules m) ≡ length (symbols_of matrix))

@@ -1,6 +1,6 @@
 -- The rules of a finished run make a valid certificate: its starts and joins list the traces by
 -- which the sides meet, and each path subtracts its rule's own move.
-use Rattle.std.proofs.Common.{All, List, Some, [], ap, arith, drop, inl, inr, length, map, refl, slice_get, subst, suc, sym, true, zero, ℕ, ℤ, ◌+◌, ◌<◌, ◌∙◌, ◌∷◌, ◌≡◌}
+use Rattle.std.proofs.Common.{List, Some, [], ap, arith, drop, inr, length, map, refl, slice_get, subst, suc, sym, true, zero, ℕ, ℤ, ◌+◌, ◌∙◌, ◌∷◌, ◌≡◌}
 use Rattle.std.proofs.lemmas.List.Elements.{filter_passes}
 use Rattle.std.proofs.lemmas.Option.{slice_get-map}
 use Rattle.std.specs.List.{range_with_len}
@@ -16,7 +16,7 @@ use Rattle.mb_completion.proofs.PeaksOfRun.{run_light}
 use Rattle.mb_completion.proofs.Turns.{share}
 use Rattle.mb_completion.specs.Laws.{FinishedIsCertified}
 use Rattle.mb_completion.specs.Made.{move_of, moves_of, paths_of}
-use Rattle.mb_completion.specs.Run.{AreLightPeaks, Finished, RunEnds}
+use Rattle.mb_completion.specs.Run.{AreLightPeaks}
 use Rattle.mb_completion.specs.Start.{births_of}
 use Rattle.mb_matrix.specs.MarkovBasis.{IsMarkovBasis}
 use Rattle.mb_matrix.specs.Matrix.{Design, IsDesign}
@@ -32,7 +32,6 @@ use Rattle.mb_rules.specs.Elimination.{IsFreeRule, PathsJoin, StartsMeet}
 use Rattle.mb_rules.specs.RuleList.{ValidRules, cmp_of}
 use Rattle.mb_tables.proofs.ListLaws.{In-filter, In-filter_only, In-place, In-range, place-in, place-within}
 use Rattle.mb_tables.specs.Chain.{Chain, Joined}
-use Rattle.mb_tables.specs.Lists.{In}
 
 -- a list with another element in front
 same_cons : {X : Type 0} {x y : X} {xs ys : List X} → x ≡ y → xs ≡ ys → (x ∷ xs) ≡ (y ∷ ys)
@@ -200,7 +199,7 @@ module _ (matrix : Design) (order : Order) (rules : List Rule) (design : IsDesig
       subst (λ (r : Rule). Joined (moves_of d rules) (drop d r.0) (drop d r.1)) sides one
 
   -- so the moves are a Markov basis
-  made-markov : IsMarkovBasis matrix (moves_of matrix.rows rules)
+  pub made-markov : IsMarkovBasis matrix (moves_of matrix.rows rules)
   made-markov =
       let d = matrix.rows in
       let columns = matrix.columns in record {

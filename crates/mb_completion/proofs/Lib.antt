@@ -19,6 +19,7 @@ pub mod MadeParts
 pub mod MadePaths
 pub mod MinimalLefts
 pub mod NormalEnds
+pub mod OneMade
 pub mod PeaksOfRun
 pub mod Putting
 pub mod Reducing

@@ -2,7 +2,7 @@
 use Rattle.std.proofs.Common.{Bool, List, None, Some, ap, arith, inl, inr, length, slice_get, subst, suc, sym, true, zero, ℕ, ◌++◌, ◌<◌, ◌∙◌, ◌≡◌, ◌⊎◌}
 use Rattle.mb_completion.proofs.Looks.{same_pair, same_rule, shared_pairs-more}
 use Rattle.mb_completion.proofs.RunEndings.{final_is, not_heavy, not_unfinished}
-use Rattle.mb_completion.specs.Run.{AreLight, AreLightPeaks, Finished, Runs}
+use Rattle.mb_completion.specs.Run.{AreLightPeaks, Finished, Runs}
 use Rattle.mb_matrix.specs.Matrix.{Design}
 use Rattle.mb_order.proofs.PeakLaws.{In-pairs, left-front, left-is, old_places}
 use Rattle.mb_order.proofs.SymbolSets.{not_false, shares-place}
@@ -112,9 +112,11 @@ shares-turned u v s =
     let b = r.2 in
     elim (shares-no v u e r.0) [ inl x ↦ absurd (omega arith) | inr x ↦ absurd (omega arith) ])
 
--- kept rules have left sides of the run
+-- kept rules have left sides of the run; where two are of one rule, its left side is to be light
 pub kept_peaks : (matrix : Design) (rules kept : List Rule) → AreLightPeaks matrix rules →
-    AreLight matrix rules → IsReduction rules kept → AreLightPeaks matrix kept
+    ((i j : ℕ) (low high : Rule) → i < j → slice_get kept i ≡ Some low →
+    slice_get kept j ≡ Some high → low.0 ≡ high.0 → IsLight matrix low.0) →
+    IsReduction rules kept → AreLightPeaks matrix kept
 kept_peaks matrix rules kept peaks light reduction i j low high l f g s =
     let a = (reduction.minimal i low f).0 in
     let b = (reduction.minimal j high g).0 in
@@ -128,7 +130,7 @@ kept_peaks matrix rules kept peaks light reduction i j low high l f g s =
             let same_left : low.0 ≡ high.0 =
             ap (λ (r : Rule). r.0) (same_rule rules a.0 b.0 x y e a.2 b.2) in
             subst (IsLight matrix) (sym (greater-self low.0)
-            ∙ ap (greater low.0) same_left) (light a.0 x a.2))
+            ∙ ap (greater low.0) same_left) (light i j low high l f g same_left))
         | inr h ↦
             subst (IsLight matrix) (greater-turned high.0 low.0)
             (peaks b.0 a.0 y x h b.2 a.2 (shares-turned low.0 high.0 s))

@@ -16,7 +16,7 @@ use Rattle.mb_tables.proofs.ListLaws.{In-place, place-in}
 use Rattle.mb_tables.specs.Lists.{In}
 
 -- less is not greater
-Less-not_Greater : Less ≡ Greater → ⊥
+pub Less-not_Greater : Less ≡ Greater → ⊥
 Less-not_Greater e = cc
 
 module _ (compare : Monomial → Monomial → Ordering) (never : (a b : Monomial) → compare a b ≡ Less →

@@ -3,6 +3,7 @@ use Rattle.std.specs.Prelude.{List, length, ℕ, ◌↔◌, ◌≡◌}
 use Rattle.mb_certificate.specs.Certificate.{Certificate}
 use Rattle.mb_certificate.specs.Valid.{IsValid}
 use Rattle.mb_completion.specs.Basis.{IsReducedBasis}
+use Rattle.mb_completion.specs.CertificateOf.{certificate_of_run}
 use Rattle.mb_completion.specs.Made.{AreNormalJoins, AreNormalStarts, moves_of, paths_of}
 use Rattle.mb_completion.specs.Outcome.{outcome_of}
 use Rattle.mb_completion.specs.Run.{AreLightPeaks, Finished, Outcome, RunEnds}
@@ -126,3 +127,11 @@ abbrev pub MadeIsValid : Type 0
 MadeIsValid =
     (c : Certificate) → IsDesign c.matrix → IsReducedBasis c.matrix c.order c.rules →
     AreLightPeaks c.matrix c.rules → IsMade c → IsValid c
+
+-- and where they are the reduced basis of a finished run, it is the one that is computed of the run
+abbrev pub MadeIsOne : Type 0
+MadeIsOne =
+    (c : Certificate) (pairs : ℕ) (final : List Rule) (looks : ℕ) → IsDesign c.matrix →
+    RunEnds c.matrix c.order pairs (Finished final looks) →
+    IsReducedBasis c.matrix c.order c.rules → IsMade c →
+    c ≡ certificate_of_run c.matrix c.order final

@@ -1,4 +1,5 @@
 pub mod Basis
+pub mod CertificateOf
 pub mod Faults
 pub mod Laws
 pub mod Limits

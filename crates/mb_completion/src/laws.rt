@@ -6,6 +6,7 @@ ghost use Rattle.mb_completion.specs.Laws.{
   FinishedIsCertified,
   FinishedRun,
   LightPeaks,
+  MadeIsOne,
   MadeIsValid,
   OneForm,
   OneOutcome,
@@ -75,6 +76,12 @@ pub fn finished_is_certified()
 /// Law: a certificate that is made of the reduced basis is valid.
 pub fn made_is_valid()
     ensures { MadeIsValid }
+{}
+
+/// Law: a certificate that is made of the reduced basis of a finished run is the one that is
+/// computed of the run.
+pub fn made_is_one()
+    ensures { MadeIsOne }
 {}
 
 /// Law: a worked run of one look.

@@ -1,7 +1,8 @@
 -- A change that is decided fits the world that it is decided over.
-use Rattle.std.proofs.Common.{Err, Ok, Result, refl, subst, ◌≡◌}
+use Rattle.std.proofs.Common.{Err, List, Ok, Result, refl, subst, ℕ, ◌≡◌}
 use Rattle.mb_desk.specs.Changes.{Misses}
 use Rattle.mb_desk.specs.Decision.{Decided, or_refusal}
+use Rattle.mb_desk.specs.Plans.{answers}
 use Rattle.mb_desk.specs.World.{World}
 use Rattle.mb_desk.specs.declared.plans.Change.{Change}
 use Rattle.mb_desk.specs.declared.plans.Plan.{Plan}
@@ -29,3 +30,8 @@ pub answers_fit : (w : World) (decided answer : Plan) → Fits decided.change w 
     ◌≡◌ {A = Decided Plan} (Ok decided) (Ok answer) → Fits answer.change w
 answers_fit w decided answer fit e =
     let same : decided ≡ answer = cc in subst (λ (p : Plan). Fits p.change w) same fit
+
+-- the text of a plan that was decided
+pub plan_text : (text : List ℕ) (plan : Plan) →
+    ◌≡◌ {A = Decided Plan} (Ok (answers text)) (Ok plan) → text ≡ plan.answer
+plan_text text plan e = cc

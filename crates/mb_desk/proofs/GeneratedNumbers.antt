@@ -16,9 +16,10 @@ use Rattle.mb_desk.proofs.FiberTests.{certified-sum}
 use Rattle.mb_desk.proofs.Fitting.{bind_ok}
 use Rattle.mb_desk.proofs.GenerateInversions.{few_ok, square_run}
 use Rattle.mb_desk.proofs.SquareModel.{square_design, table_cells, table_margins}
+use Rattle.mb_desk.specs.Completing.{complete_stop}
 use Rattle.mb_desk.specs.Decision.{or_refusal, stop_cause}
 use Rattle.mb_desk.specs.ExactTest.{Numbers, accepted, narrow, numbers_cause, numbers_in, numbers_of, tested, within_limit}
-use Rattle.mb_desk.specs.GenerateCommand.{complete_stop, finished, numbers_refusal, numbers_stop, seed_table, square_matrix, square_measure, square_outcome, tested_square}
+use Rattle.mb_desk.specs.GenerateCommand.{finished, numbers_refusal, numbers_stop, seed_table, square_matrix, square_measure, square_outcome, tested_square}
 use Rattle.mb_desk.specs.declared.exact_test.Figures.{Figures}
 use Rattle.mb_desk.specs.declared.exact_test.NumbersFault.{NumbersFault}
 use Rattle.mb_desk.specs.declared.exact_test.NumbersFault.TheVariants as faults

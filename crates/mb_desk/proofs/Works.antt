@@ -214,6 +214,27 @@ committed request before between after plan made does touches commits =
           (caused plan.answer made before between after does.cause commits.cause);
     }
 
+-- what a plan that stopped leaves
+stopped_leaves : (decided : Decided Plan) (w : World) (failed : Type 0) (stop : Stop) →
+    Follows {A = Plan} (Err stop) decided → Leaves decided w w failed (Err stop)
+stopped_leaves decided w failed Memory follows = refl
+stopped_leaves decided w failed Outside follows = inl refl
+stopped_leaves decided w failed (Refused refusal) follows = (follows, refl)
+
+-- where the plan stopped, the work ends so
+pub stopped : (before after : Scene) (decide : World → Decided Plan) (stop : Stop) →
+    Does {A = Plan} before after (Err stop) decide → Ends before after decide (Err stop)
+stopped before after decide stop does = record {
+  left = chained _ (λ w v. v ≡ w) _ before.files after.files after.files before.rows after.rows
+      after.rows does.files does.rows does.decided
+      (told_by (λ w v. v ≡ w) (world_of after.files after.rows) (λ w. refl))
+      (λ w v follows same.
+      subst (λ x. Leaves (decide w) w x (Rose before.files_failed after.files_failed) (Err stop))
+      (sym same)
+      (stopped_leaves (decide w) w (Rose before.files_failed after.files_failed) stop follows));
+  cause = does.cause;
+}
+
 -- a change that is refused, or lacks memory, leaves the files
 files_stay : (change : Change) (before after : Option Held) (made : Made) →
     FilesLeft change before after made → Stays made (after ≡ before)

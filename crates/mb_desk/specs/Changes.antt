@@ -1,7 +1,6 @@
 -- The one change of a command, as it is made.
 use Rattle.std.specs.FinMap.{from_entries, get, insert, remove}
 use Rattle.std.specs.Prelude.{Err, List, None, Ok, Option, Result, ℕ, ◌≡◌}
-use Rattle.mb_desk.specs.Kinds.{key_of}
 use Rattle.mb_desk.specs.World.{World}
 use Rattle.mb_desk.specs.declared.plans.Change.{Change}
 use Rattle.mb_desk.specs.declared.plans.Change.TheVariants.{Adds, Nothing, Removes, Replaces, Writes}
@@ -10,6 +9,7 @@ use Rattle.mb_desk.specs.declared.plans.Stop.TheVariants.{Memory, Outside, Refus
 use Rattle.mb_outside.specs.Files.{Held, IsLeft, IsPut}
 use Rattle.mb_outside.specs.Rows.{Rows}
 use Rattle.mb_outside.specs.Told.{WhereTold}
+use Rattle.mb_registry.specs.Kinds.{key_of}
 
 -- the rows after a change
 abbrev pub changed_rows : Change → Rows → Rows

@@ -19,19 +19,22 @@ use Rattle.mb_tables.specs.Answers.{◌>>=◌}
 abbrev pub certified : ℕ → List ℕ → Decided Certificate
 certified file text = or_refusal (refusals.Text file) (certificate_of text)
 
--- no line of a certificate is to be wrong
-abbrev pub judged : Option Fault → Decided (Unit {0})
-judged None = Ok tt
-judged (Some fault) = Err (refusals.Certificate fault.line fault.reason)
+-- a certificate whose first wrong line is this, if any
+abbrev pub judged_by : Certificate → Option Fault → Decided Certificate
+judged_by c None = Ok c
+judged_by c (Some fault) = Err (refusals.Certificate fault.line fault.reason)
 
--- the certificate in the file of a name: the file is read, then its text, and then each line is
--- judged
+-- no line of a certificate is to be wrong
+abbrev pub judged : Certificate → Decided Certificate
+judged c = judged_by c (first_fault c)
+
+-- the certificate in the file of a name: the file is read, then its text
+abbrev pub found : List ℕ → Held → Decided Certificate
+found name held = body_of 1 (get held name) >>= certified 1
+
+-- the same, where each line is then judged
 abbrev pub checked : List ℕ → Held → Decided Certificate
-checked name held = do
-  text ← body_of 1 (get held name)
-  certificate ← certified 1 text
-  nothing ← judged (first_fault certificate)
-  Ok certificate
+checked name held = found name held >>= judged
 
 -- the printed line: how many rules, moves and joins there are
 abbrev pub joins_line : Certificate → List ℕ

@@ -5,8 +5,6 @@ use Rattle.std.specs.Prelude.{Err, List, Ok, [], codes, length, map, ℕ, ◌%�
 use Rattle.mb_completion.specs.Limits.{most_looks}
 use Rattle.mb_completion.specs.Outcome.{outcome_of}
 use Rattle.mb_completion.specs.Run.{Finished, Outcome, TooHeavy, Unfinished}
-use Rattle.mb_completion.specs.declared.fault.CompleteFault.{CompleteFault}
-use Rattle.mb_completion.specs.declared.fault.CompleteFault.TheVariants as runs
 use Rattle.mb_desk.specs.Decision.{Decided, or_refusal}
 use Rattle.mb_desk.specs.ExactTest.{tested}
 use Rattle.mb_desk.specs.Independence.{independence, sampled_by_rows}
@@ -52,12 +50,6 @@ finished (TooHeavy i j) = Err (refusals.Exponent (i, j))
 -- the run of the completion, by grevlex and with 1,000,000 looks
 unfoldable pub square_outcome : Outcome
 square_outcome = outcome_of square_matrix Grevlex most_looks
-
--- why the work stops for the fault that a completion answers
-abbrev pub complete_stop : CompleteFault → Stop
-complete_stop (runs.Unfinished looked left) = Refused (refusals.Unfinished looked left)
-complete_stop (runs.Exponent pair) = Refused (refusals.Exponent pair)
-complete_stop runs.OutOfMemory = Memory
 
 -- the refusal of an exact test; no definition has the last of these faults
 abbrev pub numbers_refusal : NumbersFault → Refusal

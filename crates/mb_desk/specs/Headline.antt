@@ -4,10 +4,13 @@ use Rattle.std.specs.Prelude.{All, List, Ok, Some, [], length, map, pos, sum, �
 use Rattle.mb_certificate.specs.Certificate.{AreParts, Certificate}
 use Rattle.mb_certificate.specs.Valid.{IsValid}
 use Rattle.mb_certificate.specs.Written.{text_of}
+use Rattle.mb_desk.specs.AnalysisAnswers.{AnswersAnalyse, AnswersBasis}
 use Rattle.mb_desk.specs.CheckCommand.{joins_line}
 use Rattle.mb_desk.specs.ExactTest.{HasDistances, IsExactTest}
 use Rattle.mb_desk.specs.GenerateCommand.{seed_table, square_matrix, square_measure, test_lines}
+use Rattle.mb_desk.specs.ImportAnswers.{AnswersImport}
 use Rattle.mb_desk.specs.MovesCommand.{moves_line}
+use Rattle.mb_desk.specs.StoredAnswers.{AnswersDataset, AnswersExport, AnswersList, AnswersModel, AnswersRemove, AnswersReport}
 use Rattle.mb_desk.specs.World.{World}
 use Rattle.mb_desk.specs.declared.requests.MovesWords.{MovesWords}
 use Rattle.mb_desk.specs.declared.requests.ReachWords.{ReachWords}
@@ -102,9 +105,18 @@ pub record AnswersGenerate (seed : ℕ) (answer : List ℕ) : Type 0 where
   pub printed : answer ≡ test_lines (seed_table seed)
       (length (fiber_of square_matrix (seed_table seed))) fraction
 
--- the answer is that of the request
-abbrev pub Answers : Request → World → List ℕ → Type 0
-Answers (requests.Moves words) w answer = AnswersMoves w.files words answer
-Answers (requests.Reach words) w answer = AnswersReach w.files words answer
-Answers (requests.Check certificate) w answer = AnswersCheck w.files certificate answer
-Answers (requests.Generate seed) w answer = AnswersGenerate seed answer
+-- the answer is that of the request, over the world before and after
+abbrev pub Answers : Request → World → World → List ℕ → Type 0
+Answers (requests.Moves words) w v answer = AnswersMoves w.files words answer
+Answers (requests.Reach words) w v answer = AnswersReach w.files words answer
+Answers (requests.Check certificate) w v answer = AnswersCheck w.files certificate answer
+Answers (requests.Generate seed workers) w v answer = AnswersGenerate seed answer
+Answers (requests.Dataset name file) w v answer = AnswersDataset w v name file answer
+Answers (requests.Model words) w v answer = AnswersModel w v words answer
+Answers (requests.Basis words) w v answer = AnswersBasis words w.rows v.rows answer
+Answers (requests.Analyse words) w v answer = AnswersAnalyse words w.rows v.rows answer
+Answers (requests.Import words) w v answer = AnswersImport w v words answer
+Answers (requests.Report name) w v answer = AnswersReport w.rows name answer
+Answers requests.List w v answer = AnswersList w.rows answer
+Answers (requests.Export part name file) w v answer = AnswersExport w v part name file answer
+Answers (requests.Remove kind name) w v answer = AnswersRemove w.rows v.rows kind name answer

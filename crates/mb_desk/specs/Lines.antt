@@ -1,7 +1,8 @@
 -- The one line of a refusal: its name, and fields of a key and a value.
+use Rattle.std.specs.List.{join_with_byte}
 use Rattle.std.specs.Coded.{Coded, code_by, coded_list, coded_ℕ, coded×}
 use Rattle.std.specs.Fmt.{decimal}
-use Rattle.std.specs.Prelude.{List, [], codes, refl, ℕ, ◌++◌, ◌∷◌}
+use Rattle.std.specs.Prelude.{List, [], codes, map, refl, ℕ, ◌++◌, ◌∷◌}
 
 -- a field as it is printed
 pub record Shown : Type 0 where
@@ -25,6 +26,10 @@ number key value = text key (decimal value)
 -- two numbers under a key, with a space between them
 abbrev pub numbers : List ℕ → ℕ × ℕ → Shown
 numbers key pair = text key (decimal pair.0 ++ (32 ∷ decimal pair.1))
+
+-- the counts of a table under a key, with a space between each two
+abbrev pub counts : List ℕ → List ℕ → Shown
+counts key table = text key (join_with_byte 32 (map decimal table))
 
 -- a space, the key, a space, the value
 abbrev pub field_text : Shown → List ℕ

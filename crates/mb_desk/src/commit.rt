@@ -7,12 +7,12 @@ ghost use Rattle.mb_desk.specs.declared.plans.Change.TheVariants.{Adds, Removes,
 ghost use Rattle.mb_outside.specs.Causes.{HasCause};
 ghost use Rattle.mb_outside.specs.Told.{WhereTold};
 
-use crate::kinds::Kind;
 use crate::plans::{Change, Stop};
 use crate::refusals::Refusal;
 use crate::rows::AllRows;
-use crate::texts::{Body, Text, Word};
+use crate::texts::Word;
 use mb_outside::{FileFault, Files, KeepFault, Keeper};
+use mb_registry::{Body, Kind, Text};
 use std::alloc::Global;
 
 /// Adds a row. Where the plan saw none, there is one only if another hand put it there meanwhile.

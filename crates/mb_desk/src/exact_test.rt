@@ -13,16 +13,19 @@ ghost use Rattle.mb_desk.specs.ExactTest.{
   weighed_fraction,
   within_limit,
 };
+ghost use Rattle.mb_matrix.specs.Key.{digits_of};
 ghost use Rattle.mb_matrix.specs.Matrix.{fiber_of, margins_of};
 ghost use Rattle.mb_matrix.specs.Measure.{IsMeasureOf};
 ghost use Rattle.mb_tables.specs.Answers.{Gives};
 ghost use Rattle.mb_walk.specs.Ring.{rings_of};
 ghost use Rattle.mb_walk.specs.Walk.{most_tables};
+ghost use Rattle.mb_walk.specs.Walked.{AreClaims};
 ghost use Rattle.mb_weights.specs.PValue.{exact_p_value};
 ghost use Rattle.mb_weights.specs.Weight.{weight_of};
 
 use mb_certificate::{Certificate, Reason};
 use mb_checker::{Verdict, check};
+use mb_claims::Root;
 use mb_matrix::Measure;
 use mb_outside::Gate;
 use mb_tables::Table;
@@ -43,6 +46,8 @@ pub struct Figures {
     pub below: u128,
     /// The summed weight of all tables of the fiber.
     pub whole: u128,
+    /// The root of the claims by which the tables were found, which is closed, where they have keys.
+    pub claims: Option<Root>,
 }
 
 /// Why there are no numbers. Where several causes hold, the first of these is answered.
@@ -106,11 +111,14 @@ fn walk_fiber<R: Threads + Sync, G: Gate + Sync>(
         (margins_of certificate.now.matrix observed.now) }
     requires some { 1 ≤ limit }
     requires small { limit ≤ most_tables }
-    requires one_worker { workers ≡ 1 }
+    requires some_worker { 1 ≤ workers }
+    requires few_workers { workers ≤ 64 }
     ensures few { Gives numbers_cause (λ rings. tt) result
         (within_limit limit (fiber_of certificate.now.matrix observed.now)) }
-    ensures rings { IfOk result (λ rings.
-        rings ≡ rings_of certificate.now.matrix certificate.now.moves observed.now) }
+    ensures rings { IfOk result (λ walked.
+        walked.rings ≡ rings_of certificate.now.matrix certificate.now.moves observed.now) }
+    ensures claims { IfOk result (AreClaims
+        (digits_of certificate.now.matrix (margins_of certificate.now.matrix observed.now))) }
 {
     let matrix = certificate.matrix();
     let moves = certificate.moves();
@@ -131,7 +139,7 @@ fn weigh(
     requires valid { IsValid certificate.now }
     requires cells { length observed.now ≡ length certificate.now.matrix.columns }
     requires measure { IsMeasureOf certificate.now.matrix measure.now }
-    requires rings { rings.now
+    requires rings { rings.now.rings
         ≡ rings_of certificate.now.matrix certificate.now.moves observed.now }
     ensures fraction { Gives numbers_cause weighed_fraction result
         (narrow (exact_p_value certificate.now.matrix measure.now observed.now)) }
@@ -147,7 +155,7 @@ fn weigh(
 
 /// The number of tables in each ring.
 fn sizes_of(alloc: Global, rings: &Rings) -> Result<Vec<u32>, AllocError>
-    ensures { IfOk result (λ sizes. sizes.items ≡ map length rings.now) }
+    ensures { IfOk result (λ sizes. sizes.items ≡ map length rings.now.rings) }
 {
     let _total = rings.total();
     let count = rings.len();
@@ -163,8 +171,9 @@ fn sizes_of(alloc: Global, rings: &Rings) -> Result<Vec<u32>, AllocError>
 /// walked by its moves, and the weights of the tables are summed.
 ///
 /// The table has the cells of the certificate's matrix, and each of its margins fits 32 bits. The
-/// measure is one on this matrix. The limit is 1 to 2,000,000 tables, and the walk is done by one
-/// worker, which passes the gate before each table.
+/// measure is one on this matrix. The limit is 1 to 2,000,000 tables, and the walk is done by 1 to 64
+/// workers, which pass the gate before each table. The figures are the same for any number of them;
+/// where the tables of the fiber have keys of 64 bits, they have the root of the claims of these keys.
 ///
 /// Refused are, in this order: a certificate with a wrong line (`Certificate`), a fiber of more
 /// tables than the limit (`TooLarge`), and weights that add up to 2^128 or more (`TooWide`). Want
@@ -185,11 +194,18 @@ pub fn numbers<R: Threads + Sync, G: Gate + Sync>(
     requires measure { IsMeasureOf certificate.now.matrix measure.now }
     requires some { 1 ≤ limit }
     requires small { limit ≤ most_tables }
-    requires one_worker { workers ≡ 1 }
+    requires some_worker { 1 ≤ workers }
+    requires few_workers { workers ≤ 64 }
     ensures exact { Gives numbers_cause numbers_in result
         (numbers_of limit certificate.now measure.now observed.now) }
     ensures test { IfOk result
         (AreFigures certificate.now.matrix certificate.now.moves measure.now observed.now) }
+    ensures claims { IfOk result (λ figures. AreClaims
+        (digits_of certificate.now.matrix (margins_of certificate.now.matrix observed.now))
+        (record {
+          rings = rings_of certificate.now.matrix certificate.now.moves observed.now;
+          claims = figures.claims;
+        })) }
     ensures order { IfOk result (λ figures.
         (1 ≤ figures.weight) × (figures.weight ≤ figures.below) × (figures.below ≤ figures.whole)) }
 {
@@ -197,10 +213,12 @@ pub fn numbers<R: Threads + Sync, G: Gate + Sync>(
     accept(alloc, certificate)?;
     let rings = walk_fiber(rt, alloc, certificate, observed, limit, workers, gate)?;
     let weighed = weigh(certificate, measure, observed, &rings)?;
+    let sizes = sizes_of(alloc, &rings)?;
     Ok(Figures {
-        rings: sizes_of(alloc, &rings)?,
+        rings: sizes,
         weight: weighed.weight,
         below: weighed.below,
         whole: weighed.whole,
+        claims: rings.into_claims(),
     })
 }

@@ -9,13 +9,13 @@ ghost use Rattle.mb_tables.specs.Rows.{IsMoveOf};
 
 use crate::plans::Stop;
 use crate::refusals::Refusal;
-use crate::texts::Body;
 use mb_moves::{Grid, GridFault, Tested, first_not_move, read_matrix, read_moves, test_moves};
+use mb_registry::Body;
 use mb_tables::Moves;
 use std::alloc::Global;
 
 /// Why the work stops for the fault of the text of the file of this number.
-fn text_stop(file: u32, fault: GridFault) -> Stop
+pub fn text_stop(file: u32, fault: GridFault) -> Stop
     ensures { result ≡ text_stop file fault }
 {
     match fault {

@@ -4,15 +4,19 @@
 
 mod commands;
 mod commit;
+mod completing;
 mod exact_test;
 mod independence;
 mod judging;
-mod kinds;
 mod laws;
+mod limits;
 mod lines;
+mod model_keys;
+mod parts;
 mod plans;
 mod reading;
 mod reasons;
+mod records;
 mod refusals;
 mod reply;
 mod requests;
@@ -25,13 +29,17 @@ mod words;
 mod work;
 
 pub use exact_test::{Figures, NumbersFault, numbers};
-pub use kinds::Kind;
 pub use laws::{calls_are_replayed, repeats_alike};
+pub use limits::{FiberLimit, Limit, Looks};
+pub use mb_registry::{Body, Kind, Text};
+pub use parts::Part;
 pub use plans::{Change, Plan, Stop};
 pub use refusals::Refusal;
-pub use requests::{Limit, MovesWords, ReachWords, Request};
+pub use requests::{
+    AnalyseWords, BasisWords, ImportWords, ModelWords, MovesWords, ReachWords, Request,
+};
 pub use rows::AllRows;
 pub use status::Status;
-pub use texts::{Body, Text, Word};
+pub use texts::{NameWord, Word};
 pub use top::desk;
 pub use words::read_words;

@@ -1,9 +1,11 @@
 //! The one line of a refusal.
-ghost use Rattle.std.specs.Prelude.{◌≡◌, ◌++◌, IfOk, OnOk, codes, string_bytes};
-ghost use Rattle.mb_desk.specs.Lines.{field_text, line_of, number, numbers, text};
-ghost use Rattle.mb_desk.specs.Refusals.{at_line};
+ghost use Rattle.std.specs.Prelude.{◌≡◌, ◌++◌, ◌∷◌, IfOk, OnOk, codes, map, string_bytes};
+ghost use Rattle.mb_desk.specs.Lines.{counts, field_text, line_of, number, numbers, text};
+ghost use Rattle.std.specs.List.{flat_map, join_with_byte};
+ghost use Rattle.std.specs.Fmt.{decimal};
 
-use crate::texts::Body;
+use mb_registry::Body;
+use mb_tables::Table;
 use std::alloc::{AllocError, AllocFailed, Global};
 use std::marker::Model;
 
@@ -13,6 +15,7 @@ enum Value<'a> {
     Number(u64),
     Pair(u32, u32),
     Text(&'a str),
+    Counts(&'a [u32]),
 }
 
 /// A key and its value. Contracts see both as they are printed.
@@ -53,13 +56,23 @@ pub fn numbers(key: &str, pair: (u32, u32)) -> Field<'_>
     }
 }
 
-/// The number of a line, under its key.
-pub fn line_number(line: u64) -> Field<'static>
-    ensures { result ≡ at_line line }
+/// A number of 64 bits under a key.
+pub fn wide(key: &str, value: u64) -> Field<'_>
+    ensures { result ≡ number key.now value }
 {
     Field {
-        key: "line",
-        value: Value::Number(line),
+        key,
+        value: Value::Number(value),
+    }
+}
+
+/// The counts of a table under a key.
+pub fn counts<'a>(key: &'a str, table: &'a Table) -> Field<'a>
+    ensures { result ≡ counts key.now table.now }
+{
+    Field {
+        key,
+        value: Value::Counts(table.as_slice()),
     }
 }
 
@@ -71,6 +84,37 @@ pub fn text<'a>(key: &'a str, value: &'a str) -> Field<'a>
         key,
         value: Value::Text(value),
     }
+}
+
+/// Appends counts, one space between each two.
+fn append_counts(alloc: Global, line: &mut String, counts: &[u32]) -> Result<(), AllocError>
+    ensures { OnOk result (string_bytes line.new
+        ≡ string_bytes line.old ++ join_with_byte 32 (map decimal counts.now)) }
+{
+    let Some((first, others)) = counts.split_first() else {
+        return Ok(());
+    };
+    append_count(alloc, line, *first)?;
+    append_spaced(alloc, line, others)?;
+    Ok(())
+}
+
+/// Appends a count.
+fn append_count(alloc: Global, line: &mut String, count: u32) -> Result<(), AllocError>
+    ensures { OnOk result (string_bytes line.new ≡ string_bytes line.old ++ decimal count) }
+{
+    line.push_str(format!(in alloc; "{count}")?.as_str())
+}
+
+/// Appends counts, a space before each.
+fn append_spaced(alloc: Global, line: &mut String, counts: &[u32]) -> Result<(), AllocError>
+    ensures { OnOk result (string_bytes line.new
+        ≡ string_bytes line.old ++ flat_map (λ n. 32 ∷ decimal n) counts.now) }
+{
+    for count in counts {
+        line.push_str(format!(in alloc; " {count}")?.as_str())?;
+    }
+    Ok(())
 }
 
 impl<'a> Field<'a> {
@@ -88,6 +132,7 @@ impl<'a> Field<'a> {
                 line.push_str(format!(in alloc; "{first} {second}")?.as_str())
             }
             Value::Text(text) => line.push_str(text),
+            Value::Counts(counts) => append_counts(alloc, line, counts),
         }
     }
 }

@@ -2,10 +2,11 @@
 ghost use Rattle.std.specs.Prelude.{◌≡◌};
 ghost use Rattle.mb_desk.specs.declared.plans.Stop.TheVariants.{Memory};
 
-use crate::kinds::Kind;
 use crate::refusals::Refusal;
 use crate::rows::AllRows;
-use crate::texts::{Body, Word};
+use crate::texts::Word;
+use mb_registry::{Body, Kind};
+use mb_tables::OutOfMemory;
 use std::alloc::{AllocError, AllocFailed};
 
 /// The one change of a command.
@@ -67,6 +68,14 @@ impl<T: Drop> From<AllocFailed<T>> for Stop {
     ghost from_gives = { λ _ stop. stop ≡ Memory };
 
     fn from(_: AllocFailed<T>) -> Stop {
+        Stop::Memory
+    }
+}
+
+impl From<OutOfMemory> for Stop {
+    ghost from_gives = { λ _ stop. stop ≡ Memory };
+
+    fn from(_: OutOfMemory) -> Stop {
         Stop::Memory
     }
 }

@@ -5,8 +5,9 @@ ghost use Rattle.mb_desk.specs.Inputs.{body_of};
 
 use crate::plans::Stop;
 use crate::refusals::Refusal;
-use crate::texts::{Body, Word};
+use crate::texts::Word;
 use mb_outside::{FileFault, Files};
+use mb_registry::Body;
 use std::alloc::Global;
 
 /// The body of the file that a word names, which is the command's file word of this number, from 1.

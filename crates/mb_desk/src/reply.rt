@@ -6,8 +6,8 @@ ghost use Rattle.mb_desk.specs.declared.plans.Stop.TheVariants.{Refused};
 use crate::plans::Stop;
 use crate::refusals::Refusal;
 use crate::status::Status;
-use crate::texts::Body;
 use mb_outside::Sink;
+use mb_registry::Body;
 use std::alloc::Global;
 
 /// Puts a text whole and answers the status, or `Outside` where the put failed.

@@ -1,53 +1,14 @@
 //! What the desk can be asked. The definitions take these very types, since contracts see a word as
 //! its bytes and a limit as its number.
-ghost use Rattle.std.specs.Prelude.{◌≡◌, ◌≤◌};
-ghost use Rattle.mb_desk.specs.Limits.{largest_limit};
 
-use crate::texts::Word;
-use std::marker::Model;
-
-/// The greatest limit of `reach`, which is also the one where none is given.
-pub const LARGEST_LIMIT: u32 = 100_000;
+use crate::limits::{FiberLimit, Limit, Looks, Workers};
+use crate::parts::Part;
+use crate::texts::{NameWord, Word};
+use mb_order::Order;
+use mb_registry::Kind;
 
 /// The greatest seed of `generate`, 3^16 - 1.
 pub const LARGEST_SEED: u32 = 43_046_720;
-
-/// The most tables that may be reached, 1 to 100,000.
-#[derive(Drop)]
-pub struct Limit {
-    tables: u32,
-}
-
-impl Model for Limit {
-    ghost use Rattle.std.specs.Prelude.{ℕ};
-    ghost use Rattle.mb_desk.specs.Limits.{IsLimit};
-
-    ghost Value = { ℕ };
-
-    ghost view = { λ limit. limit.tables };
-
-    ghost invariant = { λ limit. IsLimit limit.tables };
-}
-
-impl Limit {
-    /// The limit of so many tables.
-    pub fn of(tables: u32) -> Limit
-        requires some { 1 ≤ tables }
-        requires small { tables ≤ largest_limit }
-        ensures { result ≡ tables }
-    {
-        Limit { tables }
-    }
-
-    /// So many tables.
-    pub fn tables(&self) -> u32
-        ensures limit { result ≡ self.now }
-        ensures some { 1 ≤ result }
-        ensures small { result ≤ largest_limit }
-    {
-        self.tables
-    }
-}
 
 /// The words of `moves`: the names of two files.
 #[derive(Drop)]
@@ -71,6 +32,62 @@ pub struct ReachWords<'a> {
     pub limit: Limit,
 }
 
+/// The words of `model`: the name of the new model and of its dataset, the name of the model file,
+/// and that of the matrix file, if one is given.
+#[derive(Drop)]
+pub struct ModelWords<'a> {
+    /// The name of the model.
+    pub name: NameWord<'a>,
+    /// The name of the dataset.
+    pub dataset: NameWord<'a>,
+    /// The model file.
+    pub file: Word<'a>,
+    /// The matrix file.
+    pub matrix: Option<Word<'a>>,
+}
+
+/// The words of `basis`: the name of the new basis and of its model, the order of monomials, and
+/// the most critical pairs that may be looked at.
+#[derive(Drop)]
+pub struct BasisWords<'a> {
+    /// The name of the basis.
+    pub name: NameWord<'a>,
+    /// The name of the model.
+    pub model: NameWord<'a>,
+    /// The order of monomials.
+    pub order: Order,
+    /// The critical pairs that may be looked at.
+    pub looks: Looks,
+}
+
+/// The words of `import`: the name of the new basis and of the one beside which it is proved, the
+/// name of the move file, and the limit.
+#[derive(Drop)]
+pub struct ImportWords<'a> {
+    /// The name of the new basis.
+    pub name: NameWord<'a>,
+    /// The name of the basis that is there.
+    pub basis: NameWord<'a>,
+    /// The move file.
+    pub moves: Word<'a>,
+    /// The most tables that may be met on the way from one side of a rule to the other.
+    pub limit: Limit,
+}
+
+/// The words of `analyse`: the name of the new analysis and of its basis, the limit, and how many
+/// workers walk.
+#[derive(Drop)]
+pub struct AnalyseWords<'a> {
+    /// The name of the analysis.
+    pub name: NameWord<'a>,
+    /// The name of the basis.
+    pub basis: NameWord<'a>,
+    /// The most tables that the fiber may have.
+    pub limit: FiberLimit,
+    /// How many workers walk.
+    pub workers: Workers,
+}
+
 /// A command with its words.
 #[derive(Drop)]
 pub enum Request<'a> {
@@ -79,7 +96,42 @@ pub enum Request<'a> {
     /// `reach MATRIX MOVES TABLE [--limit L]`.
     Reach(ReachWords<'a>),
     /// `check CERTIFICATE`, the name of a file.
-    Check { certificate: Word<'a> },
-    /// `generate SEED`, a number up to 43,046,720.
-    Generate { seed: u32 },
+    Check {
+        certificate: Word<'a>,
+    },
+    /// `generate SEED [--workers W]`, a number up to 43,046,720.
+    Generate {
+        seed: u32,
+        workers: Workers,
+    },
+    /// `dataset NAME FILE`.
+    Dataset {
+        name: NameWord<'a>,
+        file: Word<'a>,
+    },
+    /// `model NAME DATASET FILE [--matrix FILE]`.
+    Model(ModelWords<'a>),
+    /// `basis NAME MODEL [--order O] [--pairs K]`.
+    Basis(BasisWords<'a>),
+    /// `import NAME BASIS MOVES [--limit L]`.
+    Import(ImportWords<'a>),
+    /// `analyse NAME BASIS [--limit L] [--workers W]`.
+    Analyse(AnalyseWords<'a>),
+    /// `report NAME`.
+    Report {
+        name: NameWord<'a>,
+    },
+    /// `list`.
+    List,
+    /// `export WHAT NAME FILE`.
+    Export {
+        part: Part,
+        name: NameWord<'a>,
+        file: Word<'a>,
+    },
+    /// `remove KIND NAME`.
+    Remove {
+        kind: Kind,
+        name: NameWord<'a>,
+    },
 }

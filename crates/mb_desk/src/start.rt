@@ -13,7 +13,7 @@ use mb_tables::{Moves, Table};
 use std::alloc::Global;
 
 /// Why the work stops for the fault of a matrix.
-fn matrix_stop(fault: MatrixFault) -> Stop
+pub fn matrix_stop(fault: MatrixFault) -> Stop
     ensures { result ≡ matrix_stop fault }
 {
     match fault {

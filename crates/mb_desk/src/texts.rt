@@ -1,8 +1,8 @@
-//! Texts that contracts see as their bytes, so that what holds them needs no second form in the
-//! definitions.
-ghost use Rattle.std.specs.Prelude.{◌≡◌, IfOk, string_bytes};
+//! Words of the command line, which contracts see as their bytes, and words with the form of names.
+ghost use Rattle.std.specs.Prelude.{◌≡◌, MatchOption, false};
+ghost use Rattle.mb_text.specs.Name.{IsName, is_name};
 
-use std::alloc::{AllocError, Global};
+use mb_text::is_name;
 use std::marker::Model;
 
 /// A word of the command line.
@@ -42,73 +42,48 @@ impl<'a> Word<'a> {
     }
 }
 
-/// A text of one's own, as a refusal carries it.
+/// A word of the command line that has the form of a record's name: 1 to 64 of `a` to `z`, `0` to
+/// `9`, `-` and `_`, the first not `-`.
 #[derive(Drop)]
-pub struct Text {
-    text: String,
+pub struct NameWord<'a> {
+    text: &'a str,
 }
 
-impl Model for Text {
-    ghost use Rattle.std.specs.Prelude.{List, string_bytes, ℕ};
-
-    ghost Value = { List ℕ };
-
-    ghost view = { λ text. string_bytes text.text };
-}
-
-impl Text {
-    /// A copy of a text.
-    pub fn copy_of(alloc: Global, text: &str) -> Result<Text, AllocError>
-        ensures { IfOk result (λ copy. copy ≡ text.now) }
-    {
-        Ok(Text {
-            text: String::from_str(alloc, text)?,
-        })
-    }
-
-    /// The text.
-    pub fn as_str(&self) -> &str
-        ensures { result.now ≡ self.now }
-    {
-        self.text.as_str()
-    }
-}
-
-/// Bytes of one's own: an answer, the body of a record or of a file.
-#[derive(Drop)]
-pub struct Body {
-    bytes: Vec<u8>,
-}
-
-impl Model for Body {
+impl<'a> Model for NameWord<'a> {
     ghost use Rattle.std.specs.Prelude.{List, ℕ};
+    ghost use Rattle.mb_text.specs.Name.{IsName};
 
     ghost Value = { List ℕ };
 
-    ghost view = { λ body. body.bytes.items };
+    ghost view = { λ name. name.text.now };
+
+    ghost invariant = { λ name. IsName name.text.now };
 }
 
-impl Body {
-    /// These bytes.
-    pub fn of(bytes: Vec<u8>) -> Body
-        ensures { result ≡ bytes.items }
+impl<'a> NameWord<'a> {
+    /// This word, where it is a name.
+    pub fn of(text: &'a str) -> Option<NameWord<'a>>
+        ensures { MatchOption result (is_name text.now ≡ false)
+            (λ name. (name ≡ text.now) × IsName text.now) }
     {
-        Body { bytes }
-    }
-
-    /// The bytes of a line.
-    pub fn of_line(line: String) -> Body
-        ensures { result ≡ string_bytes line }
-    {
-        Body {
-            bytes: line.into_bytes(),
+        if !is_name(text.as_bytes()) {
+            return None;
         }
+        Some(NameWord { text })
     }
 
-    /// The bytes.
-    pub fn as_slice(&self) -> &[u8]
-        ensures { result.now ≡ self.now }
+    /// The name as a word.
+    pub fn word(&self) -> Word<'a>
+        ensures { result ≡ self.now }
     {
-        self.bytes.as_slice()
+        Word { text: self.text }
+    }
+
+    /// The name as text.
+    pub fn as_str(&self) -> &'a str
+        ensures text { result.now ≡ self.now }
+        ensures name { IsName self.now }
+    {
+        self.text
     }
 }

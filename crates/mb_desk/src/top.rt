@@ -66,7 +66,7 @@ pub fn desk<R: Threads + Sync, F: Files, K: Keeper, S: Sink, G: Gate + Sync>(
         (F.held files.old) (F.faults files.old) (K.rows keeper.old) (K.faults keeper.old))
         (scene_for request
         (F.held files.new) (F.faults files.new) (K.rows keeper.new) (K.faults keeper.new))
-        (λ before after. (answer : List ℕ) × Answers request before answer
+        (λ before after. (answer : List ℕ) × Answers request before after answer
         × Grows (S.taken out.old) (S.taken out.new) answer)) }
 
     // Where nothing refuses a request and no count of faults rose, it is done, or memory lacks.

@@ -7,12 +7,15 @@ ghost use Rattle.mb_desk.specs.Needs.{Touches};
 ghost use Rattle.mb_desk.specs.declared.plans.Stop.{Stop as Stops};
 ghost use Rattle.mb_outside.specs.Told.{WhereTold};
 
-use crate::commands::{check, generate, moves, reach};
+use crate::commands::{
+    analyse, basis, check, dataset, export, generate, import, list, model, moves, reach, remove,
+    report,
+};
 use crate::commit::commit;
 use crate::plans::{Plan, Stop};
 use crate::requests::Request;
-use crate::texts::Body;
 use mb_outside::{Files, Gate, Keeper};
+use mb_registry::Body;
 use std::alloc::Global;
 use std::thread::Threads;
 
@@ -21,26 +24,37 @@ fn plan<'a, R: Threads + Sync, F: Files, K: Keeper, G: Gate + Sync>(
     rt: &R,
     alloc: Global,
     files: &mut F,
-    _keeper: &mut K,
+    keeper: &mut K,
     request: &Request<'a>,
     gate: &G,
 ) -> Result<Plan<'a>, Stop>
     ensures does { Does
         (scene_for request.now
-        (F.held files.old) (F.faults files.old) (K.rows _keeper.old) (K.faults _keeper.old))
+        (F.held files.old) (F.faults files.old) (K.rows keeper.old) (K.faults keeper.old))
         (scene_for request.now
-        (F.held files.new) (F.faults files.new) (K.rows _keeper.new) (K.faults _keeper.new))
+        (F.held files.new) (F.faults files.new) (K.rows keeper.new) (K.faults keeper.new))
         result (plan_of request.now) }
     ensures touches { IfOk result (λ plan. Touches (needs_of request.now) plan.change) }
     ensures same_files { F.held files.new ≡ F.held files.old }
-    ensures same_rows { WhereTold (K.rows _keeper.old) (K.rows _keeper.new) (λ before after.
+    ensures same_rows { WhereTold (K.rows keeper.old) (K.rows keeper.new) (λ before after.
         after ≡ before) }
 {
     match request {
         Request::Moves(words) => moves::plan(alloc, files, words),
         Request::Reach(words) => reach::plan(rt, alloc, files, words, gate),
         Request::Check { certificate } => check::plan(alloc, files, certificate),
-        Request::Generate { seed } => generate::plan(rt, alloc, *seed, gate),
+        Request::Generate { seed, workers } => generate::plan(rt, alloc, *seed, workers, gate),
+        Request::Dataset { name, file } => dataset::plan(alloc, files, keeper, name, file),
+        Request::Model(words) => model::plan(alloc, files, keeper, words),
+        Request::Basis(words) => basis::plan(alloc, keeper, words),
+        Request::Import(words) => import::plan(alloc, files, keeper, words),
+        Request::Analyse(words) => analyse::plan(rt, alloc, keeper, words, gate),
+        Request::Report { name } => report::plan(alloc, keeper, name),
+        Request::List => list::plan(alloc, keeper),
+        Request::Export { part, name, file } => export::plan(
+            alloc, files, keeper, *part, name, file,
+        ),
+        Request::Remove { kind, name } => remove::plan(alloc, keeper, *kind, name),
     }
 }
 
@@ -68,7 +82,10 @@ pub fn work<R: Threads + Sync, F: Files, K: Keeper, G: Gate + Sync>(
         × EachLeft (needs_of request.now)
         (F.held files.old) (F.held files.new) (K.rows keeper.old) (K.rows keeper.new) made }
 {
-    let Plan { answer, change } = plan(rt, alloc, files, keeper, request, gate)?;
+    let Plan { answer, change } = match plan(rt, alloc, files, keeper, request, gate) {
+        Ok(planned) => planned,
+        Err(stop) => return Err(stop),
+    };
     match commit(alloc, files, keeper, &change) {
         Ok(()) => Ok(answer),
         Err(stop) => Err(stop),

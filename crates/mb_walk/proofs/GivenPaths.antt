@@ -72,14 +72,6 @@ module _ (c : Certificate) (parts : AreParts c) (valid : IsValid c) (k : ℕ)
       let b = symbols-length c.matrix.rows c.matrix.columns in
       let e = length-drop c.matrix.rows (left_of c.rules k) in omega arith
 
-  -- so is that of the right side
-  pub right-long : length (right_table c k) ≡ length c.matrix.columns
-  right-long =
-      let v = valid.rules k (sides_of c.rules k) rule-there in
-      let a = v.right_wide in
-      let b = symbols-length c.matrix.rows c.matrix.columns in
-      let e = length-drop c.matrix.rows (right_of c.rules k) in omega arith
-
   -- its margins fit 32 bits
   pub left-margins : All (λ margin. margin < 2 ^ 32) (margins_of c.matrix (left_table c k))
   left-margins =

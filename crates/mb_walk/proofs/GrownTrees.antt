@@ -1,9 +1,10 @@
 -- The search between two tables on its way, and what its ends say.
-use Rattle.std.proofs.Common.{Err, IsErrAnd, List, Ok, Result, Some, [], ap, arith, drop, inl, inr, length, min, negsuc, pos, slice_get, subst, suc, sym, zero, ℕ, ℤ, ◌++◌, ◌+◌, ◌-◌, ◌<◌, ◌∙◌, ◌∷◌, ◌≡◌, ◌≤◌, ◌⊎◌, length-append, length-drop, refl}
+use Rattle.std.proofs.Common.{Err, IsErrAnd, List, Ok, Result, Some, [], ap, arith, drop, inl, inr, length, min, negsuc, pos, slice_get, subst, suc, sym, ℕ, ℤ, ◌++◌, ◌+◌, ◌-◌, ◌<◌, ◌∙◌, ◌∷◌, ◌≡◌, ◌≤◌, ◌⊎◌, length-append, length-drop, refl}
 use Rattle.std.proofs.lemmas.List.{drop_all}
 use Rattle.std.proofs.lemmas.List.Sorted.{IsPermutation-append_left, IsPermutation-sym, IsPermutation-trans, length_permutation}
 use Rattle.std.specs.List.Sorted.{IsPermutation}
 use Rattle.mb_certificate.specs.Valid.{MovesBy, Walks}
+use Rattle.mb_checker.proofs.ValidCertificates.{moved-apart}
 use Rattle.mb_matrix.specs.Matrix.{Design, fiber_of}
 use Rattle.mb_tables.proofs.ListLaws.{get-more, place-in}
 use Rattle.mb_tables.specs.Chain.{Chain}
@@ -37,14 +38,7 @@ pub record IsGrown
   pub room : length visited ≤ limit
   pub within : first ≤ length tables
 
--- a signed number leads one step
-moved-apart : (moves : List (List ℤ)) (step : ℤ) (u v : List ℕ) → MovesBy moves step u v →
-    OneApart moves u v
-moved-apart moves (pos zero) u v h = absurd h
-moved-apart moves (pos (suc k)) u v h = (k, h.0, h.1, inl h.2)
-moved-apart moves (negsuc k) u v h = (k, h.0, h.1, inr h.2)
-
--- and a step is by a signed number
+-- a step is by a signed number
 apart-moved : (moves : List (List ℤ)) (u v : List ℕ) → OneApart moves u v →
     (step : ℤ) × MovesBy moves step u v
 apart-moved moves u v (k, move, there, inl a) = (pos (suc k), (move, there, a))

@@ -1,5 +1,5 @@
 -- The way back in a search tree: tests of steps, one after the other.
-use Rattle.std.proofs.Common.{Bool, IfSome, List, Option, Some, [], ap, append_assoc, arith, false, get_or, inl, inr, length, nat_eq, negsuc, pos, refl, reverse, slice_get, subst, suc, sym, true, zero, ℕ, ℤ, ◌++◌, ◌+◌, ◌<◌, ◌∙◌, ◌∷◌, ◌≡◌, ◌≤◌, ◌⊎◌}
+use Rattle.std.proofs.Common.{Bool, IfSome, List, Option, Some, [], ap, append_assoc, arith, false, get_or, inl, inr, length, nat_eq, refl, reverse, slice_get, subst, sym, true, ℕ, ℤ, ◌++◌, ◌+◌, ◌<◌, ◌∙◌, ◌∷◌, ◌≡◌, ◌≤◌, ◌⊎◌}
 use Rattle.std.proofs.lemmas.List.{reverse-append}
 use Rattle.std.proofs.lemmas.Option.{get_or_from_slice_get, slice_get-get_or}
 use Rattle.std.specs.Bool.{OnFalse}
@@ -10,12 +10,10 @@ use Rattle.mb_tables.proofs.OneStep.{moved-one}
 use Rattle.mb_tables.specs.Lists.{In}
 use Rattle.mb_tables.specs.Step.{Moved}
 use Rattle.mb_tables.specs.declared.sign.Sign.{Sign}
-use Rattle.mb_tables.specs.declared.sign.Sign.TheVariants.{Minus, Plus}
-use Rattle.mb_walk.proofs.PathOrder.{before-one_way, before-shorter, turn-one}
+use Rattle.mb_walk.proofs.PathOrder.{before-one_way, before-shorter}
 use Rattle.mb_walk.proofs.TreePaths.{first-goes_on}
 use Rattle.mb_walk.specs.ShortestPath.{IsLeastPath, path_cmp, turn}
 use Rattle.mb_certificate.specs.Valid.{MovesBy, Walks}
-use Rattle.mb_walk.specs.loops.InTurn.{turns_of}
 use Rattle.mb_walk.specs.loops.Tree.{AreBorn, GoesOn, GoesOnBy, IsBorn}
 
 -- where what a step makes is told from a table, the step doesn't make that table
@@ -25,70 +23,6 @@ makes-not sign u move v w h true e = tt
 makes-not sign u move v w h false e = λ k.
     let f : true ≡ false =
     sym ((bytes_decides v w).1 (sym (moved-one sign u move v w h k))) ∙ sym e in cc
-
--- a number before the turns of k moves, or one of the two of the next
-turn-cases : (a k : ℕ) → a < turns_of (k + 1) →
-    (a < turns_of k) ⊎ ((a ≡ turns_of k) ⊎ (a ≡ turns_of k + 1))
-turn-cases a k l = grind arith
-
--- before the first move no number leads anywhere
-pub tried-none : (moves : List (List ℤ)) (u v : List ℕ) (other : ℤ) → turn other < turns_of 0 →
-    MovesBy moves other u v → ⊥
-tried-none moves u v (pos zero) l h = h
-tried-none moves u v (pos (suc k)) l h = omega arith
-tried-none moves u v (negsuc k) l h = omega arith
-
-module _ (moves : List (List ℤ)) (k : ℕ) (move : List ℤ) (there : slice_get moves k ≡ Some move)
-    (u v : List ℕ) (tried : (other : ℤ) → turn other < turns_of k → MovesBy moves other u v → ⊥)
-  where
-    -- where neither adding nor subtracting the move leads there, no number up to its own does
-    pub tried-more : (Moved Plus u move v → ⊥) → (Moved Minus u move v → ⊥) → (other : ℤ) →
-        turn other < turns_of (k + 1) → MovesBy moves other u v → ⊥
-    tried-more plus minus other l h = by (turn-cases (turn other) k l)
-      where
-        by : (turn other < turns_of k)
-            ⊎ ((turn other ≡ turns_of k) ⊎ (turn other ≡ turns_of k + 1)) → ⊥
-        by (inl m) = tried other m h
-        by (inr (inl e)) =
-            let f : other ≡ pos (suc k) = turn-one other (pos (suc k)) (omega arith) in
-            let g : MovesBy moves (pos (suc k)) u v = subst (λ s. MovesBy moves s u v) f h in
-            let same : g.0 ≡ move = (let a = g.1 in cc) in
-            plus (subst (λ m. Moved Plus u m v) same g.2)
-        by (inr (inr e)) =
-            let f : other ≡ negsuc k = turn-one other (negsuc k) (omega arith) in
-            let g : MovesBy moves (negsuc k) u v = subst (λ s. MovesBy moves s u v) f h in
-            let same : g.0 ≡ move = (let a = g.1 in cc) in
-            minus (subst (λ m. Moved Minus u m v) same g.2)
-
-    -- where adding it does, its number is the first that does
-    pub first-plus : (other : ℤ) → MovesBy moves other u v → turn (pos (suc k)) ≤ turn other
-    first-plus other h = by (cases (turn other) (turns_of k))
-      where
-        cases : (a b : ℕ) → (a < b) ⊎ (b ≤ a)
-        cases a b = grind arith
-
-        by : (turn other < turns_of k) ⊎ (turns_of k ≤ turn other) →
-            turn (pos (suc k)) ≤ turn other
-        by (inl m) = absurd (tried other m h)
-        by (inr m) = omega arith
-
-    -- where only subtracting it does, the negative is
-    pub first-minus : (Moved Plus u move v → ⊥) → (other : ℤ) → MovesBy moves other u v →
-        turn (negsuc k) ≤ turn other
-    first-minus plus other h = by (cases (turn other) (turns_of k))
-      where
-        cases : (a b : ℕ) → (a < b) ⊎ ((a ≡ b) ⊎ (b < a))
-        cases a b = grind arith
-
-        by : (turn other < turns_of k) ⊎ ((turn other ≡ turns_of k) ⊎ (turns_of k < turn other)) →
-            turn (negsuc k) ≤ turn other
-        by (inl m) = absurd (tried other m h)
-        by (inr (inl e)) =
-            let f : other ≡ pos (suc k) = turn-one other (pos (suc k)) (omega arith) in
-            let g : MovesBy moves (pos (suc k)) u v = subst (λ s. MovesBy moves s u v) f h in
-            let same : g.0 ≡ move = (let a = g.1 in cc) in
-            absurd (plus (subst (λ m. Moved Plus u m v) same g.2))
-        by (inr (inr m)) = omega arith
 
 -- the table at a place has the width of all
 pub wide-at : (tables : List (List ℕ)) (width : ℕ) →

@@ -1,6 +1,6 @@
-//! The walk, ring by ring.
+//! The walk by one worker, ring by ring.
 
-ghost use Rattle.std.specs.Prelude.{◌≡◌, ◌<◌, ◌≤◌, ◌^◌, All, length};
+ghost use Rattle.std.specs.Prelude.{◌≡◌, ◌<◌, ◌≤◌, ◌^◌, All, IfOk, None, length};
 ghost use Rattle.mb_matrix.specs.Matrix.{IsMove, margins_of};
 ghost use Rattle.mb_tables.specs.Answers.{Gives};
 ghost use Rattle.mb_walk.specs.Walk.{most_tables, walk_cause, walk_of};
@@ -13,26 +13,15 @@ use mb_matrix::Matrix;
 use mb_outside::Gate;
 use mb_tables::{Moves, Table};
 use std::alloc::Global;
-use std::thread::Threads;
 
-/// The rings of a start under moves of a matrix: ring 0 is the start alone, and the next ring has
-/// what a step leads to from the last one and no ring has yet, in ascending order. They end before
-/// the first empty ring.
-///
-/// The start and the moves have the matrix's cells, each move keeps all margins, and each margin of
-/// the start fits 32 bits. The limit is 1 to 2,000,000 tables, and the walk is done by one worker,
-/// number 0. Before a table is expanded the worker passes the gate, with the number of tables that
-/// stand before this one in all rings.
-///
-/// `TooLarge` comes exactly where more tables than the limit are reached.
-pub fn walk<R: Threads + Sync, G: Gate + Sync>(
-    _rt: &R,
+/// The rings of a start by moves of a matrix, as `walk` gives them, by one worker, number 0, who
+/// keeps all tables that were met. They have no claims.
+pub fn walk_alone<G: Gate>(
     alloc: Global,
     matrix: &Matrix,
     moves: &Moves,
     start: &Table,
     limit: u32,
-    workers: u32,
     gate: &G,
 ) -> Result<Rings, WalkFault>
     requires cells { length start.now ≡ length matrix.now.columns }
@@ -41,9 +30,9 @@ pub fn walk<R: Threads + Sync, G: Gate + Sync>(
     requires margins { All (λ margin. margin < 2 ^ 32) (margins_of matrix.now start.now) }
     requires some { 1 ≤ limit }
     requires small { limit ≤ most_tables }
-    requires one_worker { workers ≡ 1 }
-    ensures { Gives walk_cause (λ rings. rings) result
+    ensures rings { Gives walk_cause (λ walked. walked.rings) result
         (walk_of limit matrix.now moves.now.rows start.now) }
+    ensures claims { IfOk result (λ walked. walked.claims ≡ None) }
 {
     prove_eq!(matrix.cols(), start.len());
     let mut visited = Visited::new(alloc);

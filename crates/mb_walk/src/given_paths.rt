@@ -1,7 +1,7 @@
 //! The paths that given moves have for the margin-free rules of a certificate.
 
 ghost use Rattle.std.specs.List.{filter, range_with_len};
-ghost use Rattle.std.specs.Prelude.{◌≡◌, ◌<◌, ◌≤◌, ◌+◌, All, IfErr, IfOk, OnOk, drop, length, true};
+ghost use Rattle.std.specs.Prelude.{◌≡◌, ◌<◌, ◌≤◌, ◌+◌, All, IfErr, IfOk, OnOk, length, true};
 ghost use Rattle.mb_certificate.specs.Certificate.{IsPath};
 ghost use Rattle.mb_certificate.specs.Valid.{IsValid, free_rules, is_free};
 ghost use Rattle.mb_walk.specs.Between.{most_between};
@@ -13,30 +13,9 @@ use crate::between_tables::between;
 use crate::connection::Between;
 use crate::fault::WalkFault;
 use mb_certificate::{Certificate, Path};
-use mb_order::Monomial;
-use mb_tables::{Moves, OutOfMemory, Table};
+use mb_checker::{is_free, table_of};
+use mb_tables::Moves;
 use std::alloc::Global;
-
-/// The table of the cells' exponents of a monomial.
-fn table_of(alloc: Global, m: &Monomial) -> Result<Table, OutOfMemory>
-    ensures { IfOk result (λ t. t ≡ drop m.now.margins m.now.list) }
-{
-    let cells = m.cells();
-    let mut counts = Vec::with_capacity(alloc, cells as usize)?;
-    for cell in 0..cells {
-        counts.push(u32::from(m.cell(cell)))?;
-    }
-    Ok(Table::from_counts(alloc, counts.as_slice())?)
-}
-
-/// Whether neither side of a rule has a symbol of a margin.
-fn is_free(certificate: &Certificate, k: u32) -> bool
-    requires { k < length certificate.now.rules }
-    ensures { result ≡ is_free certificate.now.matrix.rows certificate.now.rules k }
-{
-    let rule = &certificate.rules()[k as usize];
-    rule.left.margin_free() && rule.right.margin_free()
-}
 
 /// The path that moves have for a margin-free rule: the least one from the table of its left side to
 /// that of its right side.

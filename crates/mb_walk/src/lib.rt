@@ -6,26 +6,37 @@ mod beside_fault;
 mod beside_moves;
 mod between_tables;
 mod breadth_first;
+mod claimed_ring;
 mod connection;
 mod copies;
 mod expand;
 mod fault;
+mod gathered;
 mod given_paths;
+mod keyed_ring;
+mod keyed_steps;
+mod keyed_walk;
 mod laws;
 mod next;
+mod opened;
 mod rings;
+mod rounds;
+mod shares;
 mod tree;
 mod visited;
+mod walks;
 mod way_back;
+mod worker;
 
 pub use beside_fault::BesideFault;
 pub use beside_moves::beside;
 pub use between_tables::between;
-pub use breadth_first::walk;
 pub use connection::Between;
 pub use fault::WalkFault;
+pub use keyed_walk::walk_on;
 pub use laws::{
     each_is_reached_once, least_path_is_one, markov_basis_reaches_fiber, reached_is_joined,
     rings_are_by_distance, rings_ascend,
 };
 pub use rings::Rings;
+pub use walks::walk;

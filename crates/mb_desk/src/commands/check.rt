@@ -1,17 +1,18 @@
 //! `check CERTIFICATE`.
 ghost use Rattle.std.specs.Prelude.{◌≡◌, IfOk, false};
-ghost use Rattle.mb_certificate.specs.FirstFault.{first_fault};
-ghost use Rattle.mb_desk.specs.CheckCommand.{certified, check_plan, checked, joins_line, judged};
+ghost use Rattle.mb_certificate.specs.Valid.{IsValid};
+ghost use Rattle.mb_desk.specs.CheckCommand.{certified, check_plan, checked, found, joins_line, judged};
 ghost use Rattle.mb_desk.specs.Decision.{DoesFiles, Follows, blames};
 ghost use Rattle.mb_desk.specs.Needs.{FilesAlone, Touches};
 
 use crate::plans::{Change, Plan, Stop};
 use crate::reading::read_file;
 use crate::refusals::Refusal;
-use crate::texts::{Body, Word};
+use crate::texts::Word;
 use mb_certificate::{Certificate, ReadFault, read};
 use mb_checker::{Verdict, check};
 use mb_outside::Files;
+use mb_registry::Body;
 use std::alloc::{AllocError, Global};
 
 /// The certificate that the text of the file of this number is. The text is dropped.
@@ -27,12 +28,13 @@ fn read_text(alloc: Global, text: Body, file: u32) -> Result<Certificate, Stop>
 }
 
 /// Judges each line of a certificate.
-fn judge(alloc: Global, certificate: &Certificate) -> Result<(), Stop>
-    ensures right { Follows result (judged (first_fault certificate.now)) }
+pub fn judge(alloc: Global, certificate: Certificate) -> Result<Certificate, Stop>
+    ensures right { Follows result (judged certificate) }
+    ensures valid { IfOk result IsValid }
     ensures own { blames result ≡ false }
 {
-    match check(alloc, certificate) {
-        Ok(Verdict::Joins) => Ok(()),
+    match check(alloc, &certificate) {
+        Ok(Verdict::Joins) => Ok(certificate),
         Ok(Verdict::Refused { line, reason }) => {
             Err(Stop::Refused(Refusal::Certificate { line, reason }))
         }
@@ -40,7 +42,7 @@ fn judge(alloc: Global, certificate: &Certificate) -> Result<(), Stop>
     }
 }
 
-/// Reads the file, then its text, and judges the certificate.
+/// Reads the file, then its text.
 fn find_certificate<F: Files>(
     alloc: Global,
     files: &mut F,
@@ -48,12 +50,20 @@ fn find_certificate<F: Files>(
 ) -> Result<Certificate, Stop>
     ensures does { DoesFiles (F.held files.old) (F.held files.new)
         (F.faults files.old) (F.faults files.new)
-        result (checked name.now) }
+        result (found name.now) }
 {
     let text = read_file(alloc, files, name, 1)?;
-    let certificate = read_text(alloc, text, 1)?;
-    judge(alloc, &certificate)?;
-    Ok(certificate)
+    read_text(alloc, text, 1)
+}
+
+/// Reads the certificate of the file, and judges it.
+fn check_file<F: Files>(alloc: Global, files: &mut F, name: &Word<'_>) -> Result<Certificate, Stop>
+    ensures does { DoesFiles (F.held files.old) (F.held files.new)
+        (F.faults files.old) (F.faults files.new)
+        result (checked name.now) }
+{
+    let certificate = find_certificate(alloc, files, name)?;
+    judge(alloc, certificate)
 }
 
 /// The line that is printed.
@@ -74,7 +84,7 @@ pub fn plan<'a, F: Files>(alloc: Global, files: &mut F, name: &Word<'_>) -> Resu
         result (check_plan name.now) }
     ensures touches { IfOk result (λ plan. Touches FilesAlone plan.change) }
 {
-    let certificate = find_certificate(alloc, files, name)?;
+    let certificate = check_file(alloc, files, name)?;
     let answer = joins_line(alloc, &certificate)?;
     Ok(Plan {
         answer,

@@ -1,10 +1,9 @@
-//! `generate SEED`.
+//! `generate SEED [--workers W]`.
 ghost use Rattle.std.specs.Prelude.{◌≡◌, ◌++◌, ◌<◌, ◌≤◌, IfOk, OnOk, false, length, sum, ℕ};
 ghost use Rattle.mb_certificate.specs.Valid.{IsValid};
 ghost use Rattle.mb_desk.specs.Decision.{Follows, blames, stop_cause};
 ghost use Rattle.mb_desk.specs.ExactTest.{fraction_in};
 ghost use Rattle.mb_desk.specs.GenerateCommand.{
-  complete_stop,
   digit,
   finished,
   fraction_lines,
@@ -21,16 +20,18 @@ ghost use Rattle.mb_matrix.specs.Matrix.{fiber_of};
 ghost use Rattle.mb_tables.specs.Answers.{Gives};
 ghost use Rattle.mb_walk.specs.Walk.{most_tables};
 
+use crate::completing::complete_stop;
 use crate::exact_test::{Figures, NumbersFault, numbers};
 use crate::independence::{square_matrix, square_measure};
+use crate::limits::Workers;
 use crate::plans::{Change, Plan, Stop};
 use crate::refusals::Refusal;
-use crate::texts::Body;
 use mb_certificate::Certificate;
-use mb_completion::{CompleteFault, Completed, complete, make};
+use mb_completion::{Completed, complete, make};
 use mb_matrix::Matrix;
 use mb_order::Order;
 use mb_outside::Gate;
+use mb_registry::Body;
 use mb_tables::{OutOfMemory, Table};
 use mb_text::{push_number, push_text, push_word_line};
 use mb_weights::decimals;
@@ -65,19 +66,6 @@ fn seed_table(alloc: Global, seed: u32) -> Result<Table, AllocError>
     }
 }
 
-/// Why the work stops for the fault of a completion.
-fn complete_stop(fault: CompleteFault) -> Stop
-    ensures { result ≡ complete_stop fault }
-{
-    match fault {
-        CompleteFault::Unfinished { looked, left } => {
-            Stop::Refused(Refusal::Unfinished { looked, left })
-        }
-        CompleteFault::Exponent { pair } => Stop::Refused(Refusal::Exponent { pair }),
-        CompleteFault::OutOfMemory => Stop::Memory,
-    }
-}
-
 /// The certificate of the design matrix, completed by grevlex.
 fn certify(alloc: Global, matrix: &Matrix) -> Result<Certificate, Stop>
     requires { matrix.now ≡ square_matrix }
@@ -97,7 +85,7 @@ fn certify(alloc: Global, matrix: &Matrix) -> Result<Certificate, Stop>
 }
 
 /// Why the work stops for the fault of an exact test.
-fn numbers_stop(fault: NumbersFault) -> Stop
+pub fn numbers_stop(fault: NumbersFault) -> Stop
     ensures { result ≡ numbers_stop fault }
 {
     match fault {
@@ -116,6 +104,7 @@ fn test<R: Threads + Sync, G: Gate + Sync>(
     alloc: Global,
     certificate: &Certificate,
     table: &Table,
+    workers: &Workers,
     gate: &G,
 ) -> Result<Figures, Stop>
     requires matrix { certificate.now.matrix ≡ square_matrix }
@@ -137,7 +126,7 @@ fn test<R: Threads + Sync, G: Gate + Sync>(
         &measure,
         table,
         MOST_TABLES,
-        1,
+        workers.count(),
         gate,
     ) {
         Ok(figures) => Ok(figures),
@@ -193,6 +182,7 @@ pub fn plan<'a, R: Threads + Sync, G: Gate + Sync>(
     rt: &R,
     alloc: Global,
     seed: u32,
+    workers: &Workers,
     gate: &G,
 ) -> Result<Plan<'a>, Stop>
     ensures decided { Follows result (generate_plan seed) }
@@ -202,7 +192,7 @@ pub fn plan<'a, R: Threads + Sync, G: Gate + Sync>(
     let table = seed_table(alloc, seed)?;
     let matrix = square_matrix(alloc)?;
     let certificate = certify(alloc, &matrix)?;
-    let figures = test(rt, alloc, &certificate, &table, gate)?;
+    let figures = test(rt, alloc, &certificate, &table, workers, gate)?;
     let Ok(answer) = lines(alloc, &table, &figures) else {
         return Err(Stop::Memory);
     };

@@ -8,8 +8,8 @@ use crate::judging::{count_tested, matrix_text};
 use crate::plans::{Change, Plan, Stop};
 use crate::reading::read_file;
 use crate::requests::MovesWords;
-use crate::texts::Body;
 use mb_outside::Files;
+use mb_registry::Body;
 use std::alloc::{AllocError, Global};
 
 /// Reads both files, then both texts, and counts the moves.

@@ -6,19 +6,36 @@ ghost use Rattle.mb_desk.specs.ReachCommand.{reach_plan, reach_rings, texts_ring
 ghost use Rattle.mb_reports.specs.RingTable.{ring_table_of};
 
 use crate::judging::{count_judged, matrix_text, moves_text};
+use crate::limits::Limit;
 use crate::plans::{Change, Plan, Stop};
 use crate::reading::read_file;
 use crate::refusals::Refusal;
-use crate::requests::{Limit, ReachWords};
+use crate::requests::ReachWords;
 use crate::start::{design_matrix, start_table};
-use crate::texts::Body;
 use mb_moves::Grid;
 use mb_outside::{Files, Gate};
+use mb_registry::Body;
 use mb_reports::ring_table;
 use mb_tables::Moves;
 use mb_walk::{Rings, WalkFault, walk};
 use std::alloc::{AllocError, Global};
+use std::marker::Model;
 use std::thread::Threads;
+
+/// The rings that a walk reached, seen as the list of their lists of tables.
+#[derive(Drop)]
+struct Reached {
+    walked: Rings,
+}
+
+impl Model for Reached {
+    ghost use Rattle.std.specs.Prelude.{List};
+    ghost use Rattle.mb_walk.specs.Ring.{Ring};
+
+    ghost Value = { List Ring };
+
+    ghost view = { λ reached. reached.walked.rings };
+}
 
 /// The rings of the table of a file under moves, after the matrix, the widths, the moves and the
 /// table are tested.
@@ -30,7 +47,7 @@ fn walk_from<R: Threads + Sync, G: Gate + Sync>(
     file: &Moves,
     limit: &Limit,
     gate: &G,
-) -> Result<Rings, Stop>
+) -> Result<Reached, Stop>
     ensures rings { Follows result (walked limit.now grid.now moves.now file.now) }
     ensures own { blames result ≡ false }
 {
@@ -38,7 +55,7 @@ fn walk_from<R: Threads + Sync, G: Gate + Sync>(
     count_judged(grid, moves)?;
     let start = start_table(alloc, file, grid.width())?;
     match walk(rt, alloc, &matrix, moves, &start, limit.tables(), 1, gate) {
-        Ok(rings) => Ok(rings),
+        Ok(walked) => Ok(Reached { walked }),
         Err(WalkFault::TooLarge { seen }) => Err(Stop::Refused(Refusal::TooLarge { seen })),
         Err(WalkFault::OutOfMemory) => Err(Stop::Memory),
     }
@@ -54,7 +71,7 @@ fn walk_texts<R: Threads + Sync, G: Gate + Sync>(
     third: Body,
     limit: &Limit,
     gate: &G,
-) -> Result<Rings, Stop>
+) -> Result<Reached, Stop>
     ensures rings { Follows result (texts_rings limit.now first second third) }
     ensures own { blames result ≡ false }
 {
@@ -71,7 +88,7 @@ fn find_rings<R: Threads + Sync, F: Files, G: Gate + Sync>(
     files: &mut F,
     words: &ReachWords<'_>,
     gate: &G,
-) -> Result<Rings, Stop>
+) -> Result<Reached, Stop>
     ensures does { DoesFiles (F.held files.old) (F.held files.new)
         (F.faults files.old) (F.faults files.new)
         result (reach_rings words.now) }
@@ -83,10 +100,10 @@ fn find_rings<R: Threads + Sync, F: Files, G: Gate + Sync>(
 }
 
 /// The text that is printed.
-fn rings_text(alloc: Global, rings: &Rings) -> Result<Body, AllocError>
-    ensures { IfOk result (λ text. text ≡ ring_table_of rings.now) }
+fn rings_text(alloc: Global, reached: &Reached) -> Result<Body, AllocError>
+    ensures { IfOk result (λ text. text ≡ ring_table_of reached.now) }
 {
-    match ring_table(alloc, rings.all()) {
+    match ring_table(alloc, reached.walked.all()) {
         Ok(text) => Ok(Body::of(text)),
         Err(_) => Err(AllocError),
     }

@@ -50,8 +50,11 @@ returns-clause-peaks c =
     let list = c.args.rules.now in
     let are = c.len-rules.ensures.sound in
     let kept = map sides c.in_ok-kept.kept.items in
+    let reduction = reduction_of list are (length list.rules) c.in_ok-kept.kept.items (omega arith)
+    c.in_ok-kept.ensures in
     same_ok (AreLightPeaks list.matrix) c.of_rules.result kept
-    (kept_peaks list.matrix list.rules kept c.requires.peaks c.requires.light
-    (reduction_of list are (length list.rules) c.in_ok-kept.kept.items
-    (omega arith) c.in_ok-kept.ensures))
+    (kept_peaks list.matrix list.rules kept c.requires.peaks
+    (λ i j low high l f g e.
+    let place = (reduction.minimal i low f).0 in
+    c.requires.light place.0 (low.0, place.1) place.2) reduction)
     c.of_rules.ensures.rules

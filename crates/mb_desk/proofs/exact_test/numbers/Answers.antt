@@ -11,12 +11,13 @@ returns-clause-test g c =
     figures-test c.args.certificate.now c.matrix-parts.ensures.sound c.in_ok-accept.ensures.valid
     c.args.observed.now c.requires.cells c.args.measure.now
     (record {
-      rings = c.in_ok-sizes_of.field-0;
+      rings = c.in_ok-sizes.sizes;
       weight = c.in_ok-weighed.weighed.weight;
       below = c.in_ok-weighed.weighed.below;
       whole = c.in_ok-weighed.weighed.whole;
+      claims = c.into_claims.result;
     })
-    (c.in_ok-sizes_of.ensures ∙ ap (map (length {A = List ℕ})) c.in_ok-rings.ensures.rings)
+    (c.in_ok-sizes.ensures ∙ ap (map (length {A = List ℕ})) c.in_ok-rings.ensures.rings)
     (sym (narrow_ok
     (exact_p_value c.args.certificate.now.matrix c.args.measure.now c.args.observed.now)
     (weighed_fraction c.in_ok-weighed.weighed) c.in_ok-weighed.ensures.fraction))

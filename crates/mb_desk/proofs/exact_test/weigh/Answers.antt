@@ -13,7 +13,7 @@ fraction-requires-clause-tables c =
     (kept-cells c.args.certificate.now c.matrix.ensures.sound c.requires.valid
     c.args.observed.now c.requires.cells c.all.result.now
     (kept-reached c.args.certificate.now c.matrix.ensures.sound c.requires.valid
-    c.args.observed.now c.requires.cells c.all.result.now c.args.rings.now c.all.ensures.rings
+    c.args.observed.now c.requires.cells c.all.result.now c.args.rings.now.rings c.all.ensures.rings
     c.requires.rings))
 
 pub fraction-requires-clause-listed : goal.fraction-requires-clause-listed
@@ -21,7 +21,7 @@ fraction-requires-clause-listed c =
     kept-observed c.args.certificate.now c.matrix.ensures.sound c.requires.valid
     c.args.observed.now c.requires.cells c.all.result.now
     (kept-reached c.args.certificate.now c.matrix.ensures.sound c.requires.valid
-    c.args.observed.now c.requires.cells c.all.result.now c.args.rings.now c.all.ensures.rings
+    c.args.observed.now c.requires.cells c.all.result.now c.args.rings.now.rings c.all.ensures.rings
     c.requires.rings)
 
 pub returns-in-Some-clause-fraction : goal.returns-in-Some-clause-fraction
@@ -31,7 +31,7 @@ returns-in-Some-clause-fraction c =
     kept-p_value c.args.certificate.now c.matrix.ensures.sound c.requires.valid
     c.args.observed.now c.requires.cells c.args.measure.now found c.all.result.now
     (kept-reached c.args.certificate.now c.matrix.ensures.sound c.requires.valid
-    c.args.observed.now c.requires.cells c.all.result.now c.args.rings.now c.all.ensures.rings
+    c.args.observed.now c.requires.cells c.all.result.now c.args.rings.now.rings c.all.ensures.rings
     c.requires.rings) c.in-Some.ensures.below c.in-Some.ensures.whole in
     ap narrow (sym same) ∙ narrow-ok found (c.in-Some.ensures.order).3
 
@@ -40,5 +40,5 @@ returns-in-None-clause-fraction c =
     kept-wide c.args.certificate.now c.matrix.ensures.sound c.requires.valid
     c.args.observed.now c.requires.cells c.args.measure.now c.all.result.now
     (kept-reached c.args.certificate.now c.matrix.ensures.sound c.requires.valid
-    c.args.observed.now c.requires.cells c.all.result.now c.args.rings.now c.all.ensures.rings
+    c.args.observed.now c.requires.cells c.all.result.now c.args.rings.now.rings c.all.ensures.rings
     c.requires.rings) c.in-None.ensures.none

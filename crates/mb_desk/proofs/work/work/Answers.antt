@@ -1,49 +1,42 @@
 -- A plan and its change are the work.
 use Rattle.std.proofs.Common.{Err, Ok}
-use Rattle.mb_desk.proofs.Works.{committed, each_left, files_kept, none_left, rows_kept}
+use Rattle.mb_desk.proofs.Works.{committed, each_left, none_left, stopped}
 use Rattle.mb_desk.specs.Decision.{scene}
 use Rattle.mb_desk.specs.Commands.{needs_of}
 use Rattle.mb_desk.proofs.work.work.Goals as goal
 
-pub returns-in-Ok-clause-ends : goal.returns-in-Ok-clause-ends
-returns-in-Ok-clause-ends g c =
-    committed c.args.request.now (scene _ _ _ _) (scene _ _ _ _) (scene _ _ _ _)
-    c.in_ok-answer.field-0 (Ok c.in-Ok.field-0) c.in_ok-answer.ensures.does
-    c.in_ok-answer.ensures.touches c.in-Ok.ensures.commits
-
 pub returns-in-Err-clause-ends : goal.returns-in-Err-clause-ends
-returns-in-Err-clause-ends g c =
-    committed c.args.request.now (scene _ _ _ _) (scene _ _ _ _) (scene _ _ _ _)
-    c.in_ok-answer.field-0 (Err c.in-Err.stop) c.in_ok-answer.ensures.does
-    c.in_ok-answer.ensures.touches c.in-Err.ensures.commits
-
-pub returns-in-Err-clause-same_files : goal.returns-in-Err-clause-same_files
-returns-in-Err-clause-same_files g c =
-    files_kept _ (scene _ _ _ _) (scene _ _ _ _) c.in_ok-answer.field-0
-    (Err c.in-Err.stop) c.in_ok-answer.ensures.same_files c.in-Err.ensures.commits
-
-pub returns-in-Err-clause-same_rows : goal.returns-in-Err-clause-same_rows
-returns-in-Err-clause-same_rows g c =
-    rows_kept _ (scene _ _ _ _) (scene _ _ _ _) c.in_ok-answer.field-0
-    (Err c.in-Err.stop) c.in_ok-answer.ensures.same_rows c.in-Err.ensures.commits
-
-pub returns-in-Ok-clause-each_done : goal.returns-in-Ok-clause-each_done
-returns-in-Ok-clause-each_done g c =
-    each_left (needs_of c.args.request.now) _ _ (scene _ _ _ _) (scene _ _ _ _)
-    c.in_ok-answer.field-0 (Ok c.in-Ok.field-0) c.in_ok-answer.ensures.same_files
-    c.in_ok-answer.ensures.same_rows c.in_ok-answer.ensures.touches c.in-Ok.ensures.commits
+returns-in-Err-clause-ends g c = stopped _ _ _ c.in-Err.stop c.in-Err.ensures.does
 
 pub returns-in-Err-clause-each_failed : goal.returns-in-Err-clause-each_failed
 returns-in-Err-clause-each_failed g c failed = (
-  Err c.in-Err.stop,
-  each_left (needs_of c.args.request.now) _ _ (scene _ _ _ _) (scene _ _ _ _)
-      c.in_ok-answer.field-0 (Err c.in-Err.stop) c.in_ok-answer.ensures.same_files
-      c.in_ok-answer.ensures.same_rows c.in_ok-answer.ensures.touches c.in-Err.ensures.commits,
+  Ok tt,
+  none_left (needs_of c.args.request.now) _ _ _ _ c.in-Err.ensures.same_files
+      c.in-Err.ensures.same_rows,
 )
 
-pub returns-in_err-answer-clause-each_failed : goal.returns-in_err-answer-clause-each_failed
-returns-in_err-answer-clause-each_failed g c failed = (
-  Ok tt,
-  none_left (needs_of c.args.request.now) _ _ _ _ c.in_err-answer.ensures.same_files
-      c.in_err-answer.ensures.same_rows,
+pub returns-in-Ok-commit-clause-ends : goal.returns-in-Ok-commit-clause-ends
+returns-in-Ok-commit-clause-ends g c =
+    committed c.args.request.now (scene _ _ _ _) (scene _ _ _ _) (scene _ _ _ _) c.in-Ok.planned
+    (Ok c.in-Ok-commit.field-0) c.in-Ok.ensures.does c.in-Ok.ensures.touches
+    c.in-Ok-commit.ensures.commits
+
+pub returns-in-Err-commit-clause-ends : goal.returns-in-Err-commit-clause-ends
+returns-in-Err-commit-clause-ends g c =
+    committed c.args.request.now (scene _ _ _ _) (scene _ _ _ _) (scene _ _ _ _) c.in-Ok.planned
+    (Err c.in-Err-commit.stop) c.in-Ok.ensures.does c.in-Ok.ensures.touches
+    c.in-Err-commit.ensures.commits
+
+pub returns-in-Ok-commit-clause-each_done : goal.returns-in-Ok-commit-clause-each_done
+returns-in-Ok-commit-clause-each_done g c =
+    each_left (needs_of c.args.request.now) _ _ (scene _ _ _ _) (scene _ _ _ _) c.in-Ok.planned
+    (Ok c.in-Ok-commit.field-0) c.in-Ok.ensures.same_files c.in-Ok.ensures.same_rows
+    c.in-Ok.ensures.touches c.in-Ok-commit.ensures.commits
+
+pub returns-in-Err-commit-clause-each_failed : goal.returns-in-Err-commit-clause-each_failed
+returns-in-Err-commit-clause-each_failed g c failed = (
+  Err c.in-Err-commit.stop,
+  each_left (needs_of c.args.request.now) _ _ (scene _ _ _ _) (scene _ _ _ _) c.in-Ok.planned
+      (Err c.in-Err-commit.stop) c.in-Ok.ensures.same_files c.in-Ok.ensures.same_rows
+      c.in-Ok.ensures.touches c.in-Err-commit.ensures.commits,
 )

@@ -1,0 +1,9 @@
+-- Fewer than three words are no request.
+use Rattle.std.proofs.Common.{[]}
+use Rattle.mb_desk.proofs.OptionWords.{short_of_three}
+use Rattle.mb_desk.specs.Words.{APart, File, Name, export_of_values}
+use Rattle.mb_desk.proofs.words.read_export.Goals as goal
+
+pub returns-in_default : goal.returns-in_default
+returns-in_default c =
+    short_of_three APart Name File [] export_of_values c.args.words.now c.in_default.len_below

@@ -1,0 +1,11 @@
+pub mod BasisTexts
+pub mod ListSteps
+pub mod ListedLines
+pub mod LookingOn
+pub mod OrderlyRows
+pub mod OrderlySteps
+pub mod ReadDatasets
+pub mod RecordTexts
+pub mod Repeats
+pub mod RowKeys
+pub mod WentOn

@@ -1,0 +1,12 @@
+pub mod Adding
+pub mod Bodies
+pub mod Faults
+pub mod Kinds
+pub mod Laws
+pub mod Listing
+pub mod Looking
+pub mod Names
+pub mod Orderly
+pub mod Records
+pub mod RecordsSeen
+pub mod Removing

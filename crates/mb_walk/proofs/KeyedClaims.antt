@@ -1,0 +1,125 @@
+-- What a worker claims of the keys of tables: of those one step from a table, and from a share.
+use Rattle.std.proofs.Common.{List, Some, arith, get_or, inl, inr, length, slice_get, subst, sym, ℕ, ℤ, ◌+◌, ◌<◌, ◌≡◌, ◌⊎◌, ⊎_elim}
+use Rattle.std.proofs.lemmas.Option.{slice_get-get_or}
+use Rattle.mb_matrix.specs.Key.{IsDelta, key_of}
+use Rattle.mb_matrix.specs.declared.digit.Digit.{Digit}
+use Rattle.mb_tables.proofs.ListLaws.{place-within}
+use Rattle.mb_tables.specs.Step.{IsNear, Moved, OneApart}
+use Rattle.mb_tables.specs.declared.sign.Sign.TheVariants.{Minus, Plus}
+use Rattle.mb_walk.proofs.ClaimSteps.{claims-none, claims-same, claims-then}
+use Rattle.mb_walk.proofs.PlacesBelow.{NearBelow, Steps, SteppedBelow, all-near, all-stepped, below-cases, below-more, below-none, some-near, some-stepped, stepped-cases, stepped-more}
+use Rattle.mb_walk.specs.Claimed.{IsKeyOf}
+use Rattle.mb_walk.specs.Ring.{Ring}
+use Rattle.mb_walk.specs.loops.Worked.{AreDeltas, Claims, HasKeyedSteps, IsKeyed}
+use Rattle.mb_walk.specs.declared.worker.Worker.{Worker}
+
+-- what a step makes of a table has a key
+pub step-keyed : (digits : List Digit) (width : ℕ) (rows items : List (List ℤ)) (u now : List ℕ)
+    (k : ℕ) (move : List ℤ) → HasKeyedSteps digits width rows u → items ≡ rows → now ≡ u →
+    slice_get items k ≡ Some move → (v : List ℕ) → Steps now v move → IsKeyed digits v
+step-keyed digits width rows items u now k move h e same there v a =
+    h.steps v (
+      k,
+      move,
+      subst (λ (list : List (List ℤ)). slice_get list k ≡ Some move) e there,
+      subst (λ (t : List ℕ). Steps t v move) same a,
+    )
+
+-- what the move of a place adds to a key
+pub delta-at : (digits : List Digit) (rows items : List (List ℤ)) (deltas : List ℕ) (k : ℕ)
+    (move : List ℤ) → AreDeltas digits rows deltas → items ≡ rows →
+    slice_get items k ≡ Some move → IsDelta (key_of digits) digits move (get_or deltas k 0)
+delta-at digits rows items deltas k move h e there =
+    let here : slice_get rows k ≡ Some move =
+    subst (λ (list : List (List ℤ)). slice_get list k ≡ Some move) e there in
+    let l : k < length rows = place-within rows k move here in
+    let m : k < length deltas = omega (arith, h.count) in
+    h.each k move (get_or deltas k 0) here (slice_get-get_or deltas k 0 m)
+
+module _ (digits : List Digit) where
+  -- keys of the same tables
+  pub claims-of : (P R : List ℕ → Type 0) (before after : Worker) → ((v : List ℕ) → P v → R v) →
+      ((v : List ℕ) → R v → P v) → Claims (IsKeyOf digits P) before after →
+      Claims (IsKeyOf digits R) before after
+  claims-of P R before after to from =
+      claims-same (IsKeyOf digits P) (IsKeyOf digits R) before after
+      (λ k h. (h.0, to h.0 h.1, h.2))
+      (λ k h. (h.0, from h.0 h.1, h.2))
+
+  -- keys of some tables, and then of others
+  pub claims-both : (P Q R : List ℕ → Type 0) (before middle after : Worker) →
+      ((v : List ℕ) → P v ⊎ Q v → R v) → ((v : List ℕ) → R v → P v ⊎ Q v) →
+      Claims (IsKeyOf digits P) before middle → Claims (IsKeyOf digits Q) middle after →
+      Claims (IsKeyOf digits R) before after
+  claims-both P Q R before middle after to from f g =
+      claims-same (λ k. IsKeyOf digits P k ⊎ IsKeyOf digits Q k) (IsKeyOf digits R) before after
+      (λ k. ⊎_elim
+      (λ h. (h.0, to h.0 (inl h.1), h.2))
+      (λ h. (h.0, to h.0 (inr h.1), h.2)))
+      (λ k h. ⊎_elim
+      (λ p. inl (h.0, p, h.2))
+      (λ q. inr (h.0, q, h.2))
+      (from h.0 h.1))
+      (claims-then (IsKeyOf digits P) (IsKeyOf digits Q) before middle after f g)
+
+  -- a move more is added and subtracted
+  pub claimed-step : (moves : List (List ℤ)) (i : ℕ) (move : List ℤ) (u : List ℕ) →
+      slice_get moves i ≡ Some move → (first second third last : Worker) →
+      Claims (IsKeyOf digits (SteppedBelow moves i u)) first second →
+      Claims (IsKeyOf digits (Moved Plus u move)) second third →
+      Claims (IsKeyOf digits (Moved Minus u move)) third last →
+      Claims (IsKeyOf digits (SteppedBelow moves (i + 1) u)) first last
+  claimed-step moves i move u there first second third last f g h =
+      claims-both (λ v. SteppedBelow moves i u v ⊎ Moved Plus u move v) (Moved Minus u move)
+      (SteppedBelow moves (i + 1) u) first third last
+      (λ v k. stepped-more moves i move u v there k)
+      (λ v k. stepped-cases moves i move u v there k)
+      (claims-both (SteppedBelow moves i u) (Moved Plus u move)
+      (λ v. SteppedBelow moves i u v ⊎ Moved Plus u move v) first second third
+      (λ v k. k) (λ v k. k) f g) h
+
+  -- all moves are tried
+  pub claimed-all : (moves items : List (List ℤ)) (i : ℕ) (u : List ℕ) (before after : Worker) →
+      items ≡ moves → i ≡ length items →
+      Claims (IsKeyOf digits (SteppedBelow items i u)) before after →
+      Claims (IsKeyOf digits (OneApart moves u)) before after
+  claimed-all moves items i u before after e end f =
+      subst (λ (list : List (List ℤ)). Claims (IsKeyOf digits (OneApart list u)) before after) e
+      (claims-of (SteppedBelow items i u) (OneApart items u) before after
+      (λ v h. some-stepped items i u v h)
+      (λ v h. subst (λ k. SteppedBelow items k u v) (sym end) (all-stepped items u v h)) f)
+
+  -- a table of the ring more is expanded
+  pub claimed-place : (moves : List (List ℤ)) (ring : Ring) (i : ℕ) (u : List ℕ) →
+      slice_get ring i ≡ Some u → (first second last : Worker) →
+      Claims (IsKeyOf digits (NearBelow moves ring i)) first second →
+      Claims (IsKeyOf digits (OneApart moves u)) second last →
+      Claims (IsKeyOf digits (NearBelow moves ring (i + 1))) first last
+  claimed-place moves ring i u there first second last f g =
+      claims-both (NearBelow moves ring i) (OneApart moves u) (NearBelow moves ring (i + 1))
+      first second last
+      (λ v k. below-more ring i u (λ w. OneApart moves w v) there k)
+      (λ v k. below-cases ring i u (λ w. OneApart moves w v) there k) f g
+
+  -- all tables are expanded
+  pub claimed-ring : (moves : List (List ℤ)) (ring : Ring) (i : ℕ) (before after : Worker) →
+      i ≡ length ring → Claims (IsKeyOf digits (NearBelow moves ring i)) before after →
+      Claims (IsKeyOf digits (IsNear moves ring)) before after
+  claimed-ring moves ring i before after end f =
+      claims-of (NearBelow moves ring i) (IsNear moves ring) before after
+      (λ v h. some-near moves ring i v h)
+      (λ v h. subst (λ k. NearBelow moves ring k v) (sym end) (all-near moves ring v h)) f
+
+  -- before the first move
+  pub claimed-no_move : (moves : List (List ℤ)) (u : List ℕ) (worker : Worker) →
+      Claims (IsKeyOf digits (SteppedBelow moves 0 u)) worker worker
+  claimed-no_move moves u worker =
+      claims-none worker (IsKeyOf digits (SteppedBelow moves 0 u))
+      (λ k h. below-none moves (Steps u h.0) h.1)
+
+  -- before the first table
+  pub claimed-no_table : (moves : List (List ℤ)) (ring : Ring) (worker : Worker) →
+      Claims (IsKeyOf digits (NearBelow moves ring 0)) worker worker
+  claimed-no_table moves ring worker =
+      claims-none worker (IsKeyOf digits (NearBelow moves ring 0))
+      (λ k h. below-none ring (λ u. OneApart moves u h.0) h.1)

@@ -1,0 +1,151 @@
+//! The next ring, by keys.
+
+ghost use Rattle.std.specs.Prelude.{
+  ◌<◌,
+  ◌^◌,
+  ◌↔◌,
+  ◌≡◌,
+  ◌≤◌,
+  ◌⊎◌,
+  IfErr,
+  IfOk,
+  List,
+  [],
+  length,
+  map,
+  ℕ,
+};
+ghost use Rattle.mb_claims.specs.Claims.{IsRootOf};
+ghost use Rattle.mb_claims.specs.Lists.{AreDistinct};
+ghost use Rattle.mb_matrix.specs.Ascending.{Ascends};
+ghost use Rattle.mb_matrix.specs.Key.{digits_of, key_of};
+ghost use Rattle.mb_matrix.specs.Peel.{peel_of};
+ghost use Rattle.mb_tables.specs.Lists.{In};
+ghost use Rattle.mb_tables.specs.Step.{IsNear};
+ghost use Rattle.mb_walk.specs.Claimed.{IsKeyOf};
+ghost use Rattle.mb_walk.specs.Walk.{most_tables};
+ghost use Rattle.mb_walk.specs.loops.Keyed.{FindsKeyed, IsKeyFault, IsOfFiber};
+ghost use Rattle.mb_walk.specs.loops.Worked.{AreDeltas, HasKeyedSteps};
+
+use crate::claimed_ring::claim_ring;
+use crate::fault::WalkFault;
+use mb_claims::{Root, Shards};
+use mb_matrix::{Keys, Matrix, Peel};
+use mb_outside::Gate;
+use mb_tables::{Moves, OutOfMemory, Table};
+use std::alloc::Global;
+use std::thread::Threads;
+
+/// The tables of the fiber with these keys, in the order of the keys.
+fn read_tables(
+    alloc: Global,
+    matrix: &Matrix,
+    peel: &Peel,
+    margins: &[u64],
+    keys: &Keys,
+    found: &[u64],
+) -> Result<Vec<Table>, OutOfMemory>
+    requires peel { peel.now ≡ peel_of matrix.now }
+    requires margins { length margins.now ≡ matrix.now.rows }
+    requires keys { keys.now ≡ digits_of matrix.now margins.now }
+    requires there { (key : ℕ) → In key found.now →
+        IsKeyOf keys.now (IsOfFiber matrix.now margins.now) key }
+    ensures keys { IfOk result (λ tables. map (key_of keys.now) tables.items ≡ found.now) }
+    ensures fiber { IfOk result (λ tables. (v : List ℕ) → In v tables.items →
+        IsOfFiber matrix.now margins.now v) }
+{
+    let mut tables = Vec::with_capacity(alloc, found.len())?;
+    for key in found {
+        tables.push(keys.table(alloc, matrix, peel, margins, *key)?)?;
+    }
+    Ok(tables)
+}
+
+/// The tables of the fiber with these keys, in ascending order.
+fn ring_of_keys(
+    alloc: Global,
+    matrix: &Matrix,
+    peel: &Peel,
+    margins: &[u64],
+    keys: &Keys,
+    found: &[u64],
+) -> Result<Vec<Table>, OutOfMemory>
+    requires peel { peel.now ≡ peel_of matrix.now }
+    requires margins { length margins.now ≡ matrix.now.rows }
+    requires keys { keys.now ≡ digits_of matrix.now margins.now }
+    requires there { (key : ℕ) → In key found.now →
+        IsKeyOf keys.now (IsOfFiber matrix.now margins.now) key }
+    requires once { AreDistinct found.now }
+    ensures keys { IfOk result (λ tables. (key : ℕ) →
+        In key found.now ↔ IsKeyOf keys.now (λ v. In v tables.items) key) }
+    ensures fiber { IfOk result (λ tables. (v : List ℕ) → In v tables.items →
+        IsOfFiber matrix.now margins.now v) }
+    ensures ascends { IfOk result (λ tables. Ascends tables.items) }
+    ensures count { IfOk result (λ tables. length tables.items ≡ length found.now) }
+{
+    let mut tables = read_tables(alloc, matrix, peel, margins, keys, found)?;
+    tables.sort_unstable();
+    Ok(tables)
+}
+
+/// The tables one step from a ring that are new, in ascending order: those whose keys weren't
+/// gathered. All their keys are gathered then.
+pub fn next_keyed_ring<R: Threads + Sync, G: Gate + Sync>(
+    rt: &R,
+    alloc: Global,
+    shards: Shards,
+    root: &mut Root,
+    matrix: &Matrix,
+    peel: &Peel,
+    margins: &[u64],
+    keys: &Keys,
+    moves: &Moves,
+    deltas: &[u64],
+    ring: &[Table],
+    earlier: u64,
+    room: usize,
+    limit: u32,
+    workers: u32,
+    gate: &G,
+) -> (Shards, Result<Vec<Table>, WalkFault>)
+    requires root_ours { IsRootOf shards root.old }
+    requires none_open { root.old.knows.opened ≡ [] }
+    requires peel { peel.now ≡ peel_of matrix.now }
+    requires margins { length margins.now ≡ matrix.now.rows }
+    requires keys { keys.now ≡ digits_of matrix.now margins.now }
+    requires deltas { AreDeltas keys.now moves.now.rows deltas.now }
+    requires keyed { (u : List ℕ) → In u ring.now →
+        HasKeyedSteps keys.now moves.now.width moves.now.rows u }
+    requires fiber { (v : List ℕ) → IsNear moves.now.rows ring.now v →
+        IsOfFiber matrix.now margins.now v }
+    requires some { 1 ≤ workers }
+    requires few { workers ≤ 64 }
+    requires small_ring { length ring.now < 2 ^ 32 }
+    requires items { earlier < 2 ^ 32 }
+    requires small { limit ≤ most_tables }
+    ensures ours { IsRootOf result.0 root.new }
+    ensures none_open { root.new.knows.opened ≡ [] }
+    ensures near { (key : ℕ) → In key root.new.knows.gathered →
+        In key root.old.knows.gathered
+        ⊎ IsKeyOf keys.now (IsNear moves.now.rows ring.now) key }
+    ensures found { IfOk result.1 (λ next. FindsKeyed keys.now (IsNear moves.now.rows ring.now)
+        root.old.knows.gathered root.new.knows.gathered next.items) }
+    ensures room { IfOk result.1 (λ next. length next.items ≤ room) }
+    ensures refused { IfErr result.1
+        (IsKeyFault (IsKeyOf keys.now (IsNear moves.now.rows ring.now))
+        root.old.knows.gathered room limit) }
+{
+    let _cells = matrix.cols();
+    let (shards, found) = claim_ring(
+        rt, alloc, shards, root, keys, moves, deltas, ring, earlier, room, limit, workers, gate,
+    );
+    match found {
+        Err(fault) => (shards, Err(fault)),
+        Ok(found) => {
+            match ring_of_keys(alloc, matrix, peel, margins, keys, found.as_slice()) {
+                Err(_) => (shards, Err(WalkFault::OutOfMemory)),
+                Ok(next) => (shards, Ok(next)),
+            }
+        }
+    }
+}

@@ -1,0 +1,127 @@
+//! The walk: by keys where the tables of the fiber have them, and else by the tables themselves.
+
+ghost use Rattle.std.specs.Option.{SomeIff};
+ghost use Rattle.std.specs.Prelude.{◌≡◌, ◌<◌, ◌≤◌, ◌^◌, All, IfOk, length};
+ghost use Rattle.mb_claims.specs.Limits.{most_words};
+ghost use Rattle.mb_matrix.specs.Key.{digits_of, key_count};
+ghost use Rattle.mb_matrix.specs.Matrix.{IsMove, margins_of};
+ghost use Rattle.mb_tables.specs.Answers.{Gives};
+ghost use Rattle.mb_walk.specs.Walk.{most_tables, walk_cause, walk_of};
+ghost use Rattle.mb_walk.specs.Walked.{AreClaims};
+
+use crate::breadth_first::walk_alone;
+use crate::fault::WalkFault;
+use crate::keyed_walk::walk_on;
+use crate::rings::Rings;
+use mb_claims::Shards;
+use mb_matrix::{Keys, Matrix, Peel};
+use mb_outside::Gate;
+use mb_tables::{Moves, OutOfMemory, Table};
+use std::alloc::Global;
+use std::thread::Threads;
+
+/// The words of the one shard with which a walk begins: four for each table of the limit, but no
+/// more than 2,000,003.
+///
+/// The place of a key is what is left of it by the number of words. The least significant cells make
+/// dense runs of keys, which lie on each other where that number is close to a multiple of a place
+/// value, a power of 9 as it may be. So it is a prime where the limit is large, and odd else.
+fn first_words(limit: u32) -> u32
+    ensures some { 1 ≤ result }
+    ensures most { result ≤ most_words }
+{
+    if limit < 500_000 {
+        4 * limit + 1
+    } else {
+        2_000_003
+    }
+}
+
+/// The keys of the tables of the start's fiber, if they have any.
+fn keys_of(alloc: Global, matrix: &Matrix, start: &Table) -> Result<Option<Keys>, OutOfMemory>
+    requires cells { length start.now ≡ length matrix.now.columns }
+    ensures { IfOk result (λ keys. SomeIff keys
+        (key_count (digits_of matrix.now (margins_of matrix.now start.now)) < 2 ^ 64)
+        (digits_of matrix.now (margins_of matrix.now start.now))) }
+{
+    let peel = Peel::of(alloc, matrix)?;
+    let margins = matrix.margins(alloc, start)?;
+    Keys::of(alloc, matrix, &peel, margins.as_slice())
+}
+
+/// The walk by keys, over shards of its own.
+fn walk_by_keys<R: Threads + Sync, G: Gate + Sync>(
+    rt: &R,
+    alloc: Global,
+    matrix: &Matrix,
+    moves: &Moves,
+    start: &Table,
+    keys: &Keys,
+    limit: u32,
+    workers: u32,
+    gate: &G,
+) -> Result<Rings, WalkFault>
+    requires cells { length start.now ≡ length matrix.now.columns }
+    requires width { moves.now.width ≡ length matrix.now.columns }
+    requires moves { All (IsMove matrix.now) moves.now.rows }
+    requires margins { All (λ margin. margin < 2 ^ 32) (margins_of matrix.now start.now) }
+    requires some { 1 ≤ limit }
+    requires small { limit ≤ most_tables }
+    requires some_worker { 1 ≤ workers }
+    requires few_workers { workers ≤ 64 }
+    requires keys { keys.now ≡ digits_of matrix.now (margins_of matrix.now start.now) }
+    requires fits { key_count keys.now < 2 ^ 64 }
+    ensures rings { Gives walk_cause (λ walked. walked.rings) result
+        (walk_of limit matrix.now moves.now.rows start.now) }
+    ensures claims { IfOk result (AreClaims keys.now) }
+{
+    let (shards, mut root) = Shards::try_new(alloc, 1, first_words(limit))?;
+    match walk_on(
+        rt, alloc, matrix, moves, start, keys, shards, &mut root, limit, workers, gate,
+    ) {
+        Err((_, fault)) => Err(fault),
+        Ok((rings, _)) => Ok(rings.with_claims(root)),
+    }
+}
+
+/// The rings of a start by moves of a matrix: ring 0 is the start alone, and the next ring has
+/// what a step leads to from the last one and no ring has yet, in ascending order. They end before
+/// the first empty ring.
+///
+/// The start and the moves have the matrix's cells, each move keeps all margins, and each margin of
+/// the start fits 32 bits. The limit is 1 to 2,000,000 tables, and there are 1 to 64 workers.
+/// Before a worker expands a table it passes the gate, with its number and the number of tables
+/// that stand before this one in all rings. The rings are the same for any number of workers.
+///
+/// Where the tables of the fiber have keys of 64 bits, the workers claim them (`walk_on`), and the
+/// rings have the root of these claims. Where they have none, worker 0 walks alone.
+///
+/// `TooLarge` comes exactly where more tables than the limit are reached.
+pub fn walk<R: Threads + Sync, G: Gate + Sync>(
+    rt: &R,
+    alloc: Global,
+    matrix: &Matrix,
+    moves: &Moves,
+    start: &Table,
+    limit: u32,
+    workers: u32,
+    gate: &G,
+) -> Result<Rings, WalkFault>
+    requires cells { length start.now ≡ length matrix.now.columns }
+    requires width { moves.now.width ≡ length matrix.now.columns }
+    requires moves { All (IsMove matrix.now) moves.now.rows }
+    requires margins { All (λ margin. margin < 2 ^ 32) (margins_of matrix.now start.now) }
+    requires some { 1 ≤ limit }
+    requires small { limit ≤ most_tables }
+    requires some_worker { 1 ≤ workers }
+    requires few_workers { workers ≤ 64 }
+    ensures rings { Gives walk_cause (λ walked. walked.rings) result
+        (walk_of limit matrix.now moves.now.rows start.now) }
+    ensures claims { IfOk result
+        (AreClaims (digits_of matrix.now (margins_of matrix.now start.now))) }
+{
+    match keys_of(alloc, matrix, start)? {
+        None => walk_alone(alloc, matrix, moves, start, limit, gate),
+        Some(keys) => walk_by_keys(rt, alloc, matrix, moves, start, &keys, limit, workers, gate),
+    }
+}

@@ -1,0 +1,57 @@
+//! A worker of one ring: the pass by which it claims keys, and what it found.
+
+ghost use Rattle.std.specs.Prelude.{◌++◌, ◌∷◌, ◌≡◌, ◌≢◌, [], false};
+ghost use Rattle.mb_claims.specs.Claims.{IsPassOf};
+ghost use Rattle.mb_walk.specs.loops.Worked.{Claims, IsWorkerOf};
+
+use mb_claims::{Claim, Pass, Shards};
+
+/// A worker of one ring. One element holds all that a thread changes.
+#[derive(Drop)]
+pub struct Worker {
+    /// The view by which it claims.
+    pub pass: Pass,
+    /// The keys that its pass won, in the order in which it won them.
+    pub found: Vec<u64>,
+    /// Whether it may have left a key that isn't stored.
+    pub is_left: bool,
+    /// Whether memory was wanting for its list.
+    pub is_short: bool,
+    /// The shards that it found full, one bit each.
+    pub full: u64,
+}
+
+/// The bit of a shard. There are at most 64.
+fn shard_bit(shard: u32) -> u64 {
+    if shard < 64 { 1 << shard } else { 0 }
+}
+
+/// Adds a key to the worker's list.
+fn keep(worker: &mut Worker, key: u64)
+    ensures pass { worker.new.pass ≡ worker.old.pass }
+    ensures left { worker.new.is_left ≡ worker.old.is_left }
+    ensures short { worker.new.is_short ≡ false → worker.old.is_short ≡ false }
+    ensures found { worker.new.is_short ≡ false →
+        worker.new.found.items ≡ worker.old.found.items ++ key ∷ [] }
+{
+    if worker.found.push(key).is_err() {
+        worker.is_short = true;
+    }
+}
+
+/// Claims a key.
+pub fn claim_key(shards: &Shards, worker: &mut Worker, key: u64)
+    requires ours { IsWorkerOf shards.now worker.old }
+    requires key { key ≢ 0 }
+    ensures ours { IsWorkerOf shards.now worker.new }
+    ensures claimed { Claims (λ k. k ≡ key) worker.old worker.new }
+{
+    match shards.claim(&mut worker.pass, key) {
+        Claim::New => keep(worker, key),
+        Claim::Seen => {}
+        Claim::Full { shard } => {
+            worker.is_left = true;
+            worker.full |= shard_bit(shard);
+        }
+    }
+}
