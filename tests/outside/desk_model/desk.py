@@ -69,7 +69,7 @@ class Desk:
     def do_check(self, file):
         return self.text_of(certificates.answer(*self.read(file)))
 
-    def do_generate(self, seed):
+    def do_generate(self, seed, workers=1):
         return grids.answer_generate(seed).encode()
 
     def plain(self, names, limit):
@@ -112,7 +112,7 @@ class Desk:
         rules, moves = bodies.line("rules", len(certificate[3])), bodies.line("moves", len(certificate[2]))
         return self.store("basis", name, (model, certificate), *lines, rules, moves)
 
-    def do_analyse(self, name, basis, limit=2_000_000):
+    def do_analyse(self, name, basis, limit=2_000_000, workers=1):
         model, certificate = self.get("basis", basis)
         dataset, *fixed = self.get("model", model)
         observed = csv_text.counts(self.get("dataset", dataset))

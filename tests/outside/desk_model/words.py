@@ -34,7 +34,7 @@ def that(test):
     return lambda word: word if test(word) else None
 
 
-FILE, NAME, FEW = that(is_file), that(is_name), number(1, 100_000)
+FILE, NAME, FEW, WORKERS = that(is_file), that(is_name), number(1, 100_000), number(1, 64)
 # The readers of each command's words in their order, and of its options.
 COMMANDS = {
     "moves": ([FILE, FILE], {}),
@@ -44,12 +44,12 @@ COMMANDS = {
     "basis": ([NAME, NAME], {"--order": one_of(("lex", "grevlex")), "--pairs": number(0, 1_000_000)}),
     "import": ([NAME, NAME, FILE], {"--limit": FEW}),
     "check": ([FILE], {}),
-    "analyse": ([NAME, NAME], {"--limit": number(1, 2_000_000)}),
+    "analyse": ([NAME, NAME], {"--limit": number(1, 2_000_000), "--workers": WORKERS}),
     "report": ([NAME], {}),
     "list": ([], {}),
     "export": ([one_of(PARTS), NAME, FILE], {}),
     "remove": ([one_of(KINDS), NAME], {}),
-    "generate": ([number(0, 43_046_720)], {}),
+    "generate": ([number(0, 43_046_720)], {"--workers": WORKERS}),
 }
 
 
