@@ -140,7 +140,7 @@ def combined(dice, moves):
     return moves
 
 
-# The files of a session.
+# The files that a list of commands reads.
 
 
 def files(dice):
