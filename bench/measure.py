@@ -1,4 +1,5 @@
 """Runs two programs in turn and compares their least processor times and their peaks of memory."""
+import glob
 import os
 import shutil
 import subprocess
@@ -34,7 +35,7 @@ def lines_below(crates):
 
 def built(folder, name, crates, words):
     """Our program of bench/ours/NAME.txt, which uses these crates and those below, built in a folder over a copy of
-    them and run once with words."""
+    them and run once with words. What its proof asks for of a function stands in NAME.FUNCTION.MODULE.txt."""
     lines = lines_below(crates)
     copied = [line.split(":")[0] for line in lines]
     for crate in copied:
@@ -50,6 +51,11 @@ def built(folder, name, crates, words):
     os.makedirs(source)
     shutil.copy(os.path.join(HERE, "ours", f"{name}.txt"), os.path.join(source, "main.rt"))
     crate = os.path.dirname(source)
+    for proof in glob.glob(os.path.join(HERE, "ours", f"{name}.*.*.txt")):
+        _, function, module, _ = os.path.basename(proof).split(".")
+        place = os.path.join(crate, "proofs", function)
+        os.makedirs(place, exist_ok=True)
+        shutil.copy(proof, os.path.join(place, f"{module}.antt"))
     run = subprocess.run(["rt", "run", "--", *words], cwd=crate, capture_output=True, text=True)
     if run.returncode != 0:
         sys.exit(run.stdout + run.stderr)

@@ -1,25 +1,27 @@
 -- What is known where `analyse` found the numbers of an exact test.
-use Rattle.std.proofs.Common.{Bool, Err, List, None, Ok, Option, Result, Some, ap, cond, false, length, map, nat_lt, refl, subst, sym, true, ℕ, ◌<◌, ◌^◌, ◌∙◌, ◌≡◌, ◌≤◌}
+use Rattle.std.proofs.Common.{Bool, Err, List, None, Ok, Option, Result, Some, ap, cond, false, length, map, nat_lt, refl, subst, sum, sym, true, ℕ, ◌<◌, ◌^◌, ◌∙◌, ◌≡◌, ◌≤◌}
 use Rattle.std.proofs.lemmas.Bool.{eqb-true, ltb-true}
 use Rattle.mb_certificate.proofs.NoFaults.{valid-none}
 use Rattle.mb_certificate.specs.Certificate.{AreParts, Certificate}
 use Rattle.mb_certificate.specs.FirstFault.{first_fault}
+use Rattle.mb_certificate.specs.Valid.{IsValid}
 use Rattle.mb_certificate.specs.declared.line_fault.Fault.{Fault}
 use Rattle.mb_checker.proofs.ValidCertificates.{valid-markov}
-use Rattle.mb_data.specs.CrossTable.{CrossTable, counts}
+use Rattle.mb_data.specs.CrossTable.{counts}
 use Rattle.mb_desk.proofs.FiberTests.{is_exact_test, sizes-sum}
 use Rattle.mb_desk.proofs.Fitting.{Fits, bind_ok, or_ok}
 use Rattle.mb_desk.proofs.GenerateInversions.{few_ok, narrow_ok}
 use Rattle.mb_desk.proofs.KeptRecords.{kept_fits, kept_means}
+use Rattle.mb_desk.proofs.LinkedRecords.{found_is, records_linked}
 use Rattle.mb_desk.proofs.SameMatrices.{same-decides}
 use Rattle.mb_desk.proofs.StoredInversions.{has_basis, has_dataset, has_model}
-use Rattle.mb_desk.specs.AnalyseCommand.{analyse_plan, modelled, of_one_matrix, of_one_size, records_named, records_tested, report_named, report_of, reported, same_design}
+use Rattle.mb_desk.specs.AnalyseCommand.{analyse_plan, of_one_matrix, of_one_size, records_named, records_tested, report_named, report_of, reported, same_design}
 use Rattle.mb_desk.specs.AnalysisAnswers.{AnswersAnalyse, tested_report}
 use Rattle.mb_desk.specs.Changes.{changed}
 use Rattle.mb_desk.specs.Decision.{Decided}
-use Rattle.mb_desk.specs.ExactTest.{Numbers, accepted, narrow, numbers_of, tested, within_limit}
+use Rattle.mb_desk.specs.ExactTest.{IsExactTest, Numbers, accepted, narrow, numbers_of, tested, within_limit}
 use Rattle.mb_desk.specs.GenerateCommand.{numbers_refusal}
-use Rattle.mb_desk.specs.Recorded.{found, kept_plan}
+use Rattle.mb_desk.specs.Recorded.{kept_plan}
 use Rattle.mb_desk.specs.StoredAnswers.{HasBasis, HasDataset, HasModel, IsKept}
 use Rattle.mb_desk.specs.World.{World}
 use Rattle.mb_desk.specs.declared.commands.analyse.Records.{Records}
@@ -28,7 +30,6 @@ use Rattle.mb_desk.specs.declared.exact_test.NumbersFault.TheVariants as faults
 use Rattle.mb_desk.specs.declared.plans.Plan.{Plan}
 use Rattle.mb_desk.specs.declared.refusals.Refusal.{Refusal}
 use Rattle.mb_desk.specs.declared.requests.AnalyseWords.{AnalyseWords}
-use Rattle.mb_kinds.specs.Model.{ModelValue}
 use Rattle.mb_matrix.specs.MarkovBasis.{IsMarkovBasis}
 use Rattle.mb_matrix.specs.Matrix.{Design, IsDesign, fiber_of}
 use Rattle.mb_matrix.specs.Measure.{Weighting}
@@ -37,7 +38,7 @@ use Rattle.mb_registry.specs.Looking.{basis_named, dataset_named, model_named}
 use Rattle.mb_registry.specs.declared.kinds.Kind.TheVariants.{Analysis, Basis}
 use Rattle.mb_reports.specs.Report.{report_text}
 use Rattle.mb_tables.specs.Answers.{◌>>=◌}
-use Rattle.mb_walk.specs.Ring.{rings_of}
+use Rattle.mb_walk.specs.Ring.{Ring, rings_of}
 use Rattle.mb_weights.specs.PValue.{Fraction, exact_p_value}
 use Rattle.mb_weights.specs.Weight.{weight_of}
 
@@ -50,55 +51,24 @@ record AreFound (rows : Rows) (basis : List ℕ) (records : Records) : Type 0 wh
   model_there : HasModel rows records.model_name records.dataset_name records.model
   dataset_there : HasDataset rows records.dataset_name records.dataset
 
--- the records of these parts
-abbrev of_parts : List ℕ × Certificate → List ℕ × ModelValue × CrossTable → Records
-of_parts proved model = record {
-  model_name = proved.0;
-  certificate = proved.1;
-  dataset_name = model.0;
-  model = model.1;
-  dataset = model.2;
-}
-
--- the model and the dataset that were found
-modelled_ok : (rows : Rows) (name : List ℕ) (parts : List ℕ × ModelValue × CrossTable) →
-    modelled name rows ≡ Ok parts →
-    HasModel rows name parts.0 parts.1 × HasDataset rows parts.0 parts.2
-modelled_ok rows name parts e =
-    let a = bind_ok (found (model_named name) rows)
-    (λ (m : List ℕ × ModelValue). found (dataset_named m.0) rows >>= λ table.
-    Ok (m.0, m.1, table)) parts e in
-    let b = bind_ok (found (dataset_named (a.0).0) rows) (λ table. Ok ((a.0).0, (a.0).1, table)) parts
-    a.2 in
-    let same : ((a.0).0, (a.0).1, b.0) ≡ parts = one_of ((a.0).0, (a.0).1, b.0) parts b.2 in
-    subst (λ (p : List ℕ × ModelValue × CrossTable).
-    HasModel rows name p.0 p.1 × HasDataset rows p.0 p.2) same
-    (has_model rows name (a.0).0 (a.0).1 a.1, has_dataset rows (a.0).0 b.0 b.1)
-  where
-    one_of : (p q : List ℕ × ModelValue × CrossTable) →
-        (let d : Decided (List ℕ × ModelValue × CrossTable) = Ok p in d) ≡ Ok q → p ≡ q
-    one_of p q f = cc
-
 -- they are in their rows
 are_found : (rows : Rows) (basis : List ℕ) (records : Records) →
     records_named basis rows ≡ Ok records → AreFound rows basis records
 are_found rows basis records e =
-    let a = bind_ok (found (basis_named basis) rows)
-    (λ (proved : List ℕ × Certificate). modelled proved.0 rows >>= λ m. Ok (of_parts proved m))
-    records e in
-    let b = bind_ok (modelled (a.0).0 rows) (λ m. Ok (of_parts a.0 m)) records a.2 in
-    let there = modelled_ok rows (a.0).0 b.0 b.1 in
-    let read = has_basis rows basis (a.0).0 (a.0).1 a.1 in
-    subst (AreFound rows basis) (one_of (of_parts a.0 b.0) records b.2)
-    (record {
+    let linked = records_linked rows basis records e in
+    let read =
+    has_basis rows basis records.model_name records.certificate
+    (found_is (basis_named basis) rows _ linked.basis_there) in
+    record {
       parts = (read.2).parts;
       basis_there = read.1 ∙ ap Some (read.2).written;
-      model_there = there.0;
-      dataset_there = there.1;
-    })
-  where
-    one_of : (p q : Records) → (let d : Decided Records = Ok p in d) ≡ Ok q → p ≡ q
-    one_of p q f = cc
+      model_there =
+          has_model rows records.model_name records.dataset_name records.model
+          (found_is (model_named records.model_name) rows _ linked.model_there);
+      dataset_there =
+          has_dataset rows records.dataset_name records.dataset
+          (found_is (dataset_named records.dataset_name) rows _ linked.dataset_there);
+    }
 
 -- ---- the tests
 
@@ -224,41 +194,53 @@ same_report words records numbers report are matrix text =
     (rings_of m records.certificate.moves (counts records.dataset.entries))
     (exact_p_value m records.model.measure (counts records.dataset.entries)))) matrix
 
--- and its answer has its meaning
-pub analyse_means : (words : AnalyseWords) (w : World) (plan : Plan) →
-    analyse_plan words w.rows ≡ Ok plan →
-    AnswersAnalyse words w.rows (changed plan.change w).rows plan.answer
-analyse_means words w plan e =
-    let a = bind_ok (report_named words w.rows) (λ report.
-    kept_plan Analysis words.name (Some (Basis, words.basis)) report report w.rows) plan e in
-    let b = bind_ok (records_named words.basis w.rows) (reported words) a.0 a.1 in
+-- the rings of the exact test of the records' table, and its p-value
+abbrev pub rings_in : Records → List Ring
+rings_in records =
+    rings_of records.model.matrix records.certificate.moves (counts records.dataset.entries)
+
+abbrev pub p_value_in : Records → Fraction
+p_value_in records =
+    exact_p_value records.model.matrix records.model.measure (counts records.dataset.entries)
+
+-- what is known of the report that is made of rows
+pub record IsAnalysed (words : AnalyseWords) (rows : Rows) (report : List ℕ) : Type 0 where
+  pub records : Records
+  pub named : records_named words.basis rows ≡ Ok records
+  pub matrix : records.certificate.matrix ≡ records.model.matrix
+  pub cells : length (counts records.dataset.entries) ≡ length records.model.matrix.columns
+  pub design : IsDesign records.model.matrix
+  pub valid : IsValid records.certificate
+  pub test : IsExactTest records.model.matrix records.certificate.moves records.model.measure
+      (counts records.dataset.entries) (rings_in records) (p_value_in records)
+  pub few : length (fiber_of records.model.matrix (counts records.dataset.entries)) ≤ words.limit
+  pub tables : sum (map (length {A = List ℕ}) (rings_in records))
+      ≡ length (fiber_of records.model.matrix (counts records.dataset.entries))
+  pub narrow : (p_value_in records).whole < 2 ^ 128
+  pub text : report ≡ report_text (tested_report words records.model_name records.dataset_name
+      records.model (counts records.dataset.entries) (rings_in records) (p_value_in records))
+
+pub is_analysed : (words : AnalyseWords) (rows : Rows) (report : List ℕ) →
+    report_named words rows ≡ Ok report → IsAnalysed words rows report
+is_analysed words rows report e =
+    let b = bind_ok (records_named words.basis rows) (reported words) report e in
     let records = b.0 in
     let c = records.certificate in
     let model = records.model in
     let observed = counts records.dataset.entries in
-    let there = are_found w.rows words.basis records b.1 in
-    let told = is_reported words records a.0 b.2 in
+    let there = are_found rows words.basis records b.1 in
+    let told = is_reported words records report b.2 in
     let valid = valid-none c there.parts told.are.right in
     let design = subst IsDesign told.matrix there.parts.design in
     let basis = subst (λ (m : Design). IsMarkovBasis m c.moves) told.matrix
     (valid-markov c valid there.parts) in
     let long : length observed ≡ length model.matrix.columns = sym told.cells in
-    let rings = rings_of model.matrix c.moves observed in
-    let p = exact_p_value model.matrix model.measure observed in
-    let same = same_report words records told.numbers a.0 told.are told.matrix told.text in
     record {
-      model_name = records.model_name;
-      dataset_name = records.dataset_name;
-      certificate = c;
-      model = model;
-      dataset = records.dataset;
-      rings = rings;
-      fraction = p;
-      basis_there = there.basis_there;
-      model_there = there.model_there;
-      dataset_there = there.dataset_there;
+      records = records;
+      named = b.1;
       matrix = told.matrix;
       cells = long;
+      design = design;
       valid = valid;
       test = is_exact_test model.matrix design c.moves basis observed long model.measure;
       few = subst (λ (m : Design). length (fiber_of m observed) ≤ words.limit) told.matrix
@@ -266,7 +248,38 @@ analyse_means words w plan e =
       tables = sizes-sum model.matrix design c.moves basis observed long;
       narrow = subst (λ (m : Design). (exact_p_value m model.measure observed).whole < 2 ^ 128)
           told.matrix told.are.below;
+      text = same_report words records told.numbers report told.are told.matrix told.text;
+    }
+
+-- and its answer has its meaning
+pub analyse_means : (words : AnalyseWords) (w : World) (plan : Plan) →
+    analyse_plan words w.rows ≡ Ok plan →
+    AnswersAnalyse words w.rows (changed plan.change w).rows plan.answer
+analyse_means words w plan e =
+    let a = bind_ok (report_named words w.rows) (λ report.
+    kept_plan Analysis words.name (Some (Basis, words.basis)) report report w.rows) plan e in
+    let is = is_analysed words w.rows a.0 a.1 in
+    let records = is.records in
+    let there = are_found w.rows words.basis records is.named in
+    record {
+      model_name = records.model_name;
+      dataset_name = records.dataset_name;
+      certificate = records.certificate;
+      model = records.model;
+      dataset = records.dataset;
+      rings = rings_in records;
+      fraction = p_value_in records;
+      basis_there = there.basis_there;
+      model_there = there.model_there;
+      dataset_there = there.dataset_there;
+      matrix = is.matrix;
+      cells = is.cells;
+      valid = is.valid;
+      test = is.test;
+      few = is.few;
+      tables = is.tables;
+      narrow = is.narrow;
       kept = subst (λ text. IsKept Analysis words.name text text w.rows (changed plan.change w).rows
-          plan.answer) same
+          plan.answer) is.text
           (kept_means Analysis words.name (Some (Basis, words.basis)) a.0 a.0 w plan a.2);
     }

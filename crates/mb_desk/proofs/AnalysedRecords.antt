@@ -58,7 +58,7 @@ module _ (before between after : Option Rows) (n m k : ℕ) (name text dataset :
       same second))
 
 -- the records of these parts
-abbrev of_parts : List ℕ × Certificate → List ℕ × ModelValue × CrossTable → Records
+abbrev pub of_parts : List ℕ × Certificate → List ℕ × ModelValue × CrossTable → Records
 of_parts proved model = record {
   model_name = proved.0;
   certificate = proved.1;

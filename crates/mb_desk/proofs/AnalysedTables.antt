@@ -18,7 +18,7 @@ total-margins matrix table design total k d l =
     omega (arith, bound, total)
 
 -- the tables of so many rings, of which one is there
-rings-there : (rings : List Ring) (sizes : List ℕ) (table : List ℕ) →
+pub rings-there : (rings : List Ring) (sizes : List ℕ) (table : List ℕ) →
     sizes ≡ map (length {A = List ℕ}) rings → occurrences table (tables_of rings) ≡ 1 →
     1 ≤ length sizes
 rings-there [] sizes table same once = absurd (cc)

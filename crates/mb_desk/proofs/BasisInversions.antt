@@ -60,12 +60,12 @@ completion_is matrix order (Unfinished looks i j) c e = absurd (cc)
 completion_is matrix order (TooHeavy i j) c e = absurd (cc)
 
 -- what is known of the certificate of a finished run
-record IsOf (matrix : Design) (order : Order) (c : Certificate) : Type 0 where
-  matrix_is : c.matrix ≡ matrix
-  order_is : c.order ≡ order
-  reduced : IsReducedBasis matrix order c.rules
-  valid : IsValid c
-  basis : IsMarkovBasis matrix c.moves
+pub record IsOf (matrix : Design) (order : Order) (c : Certificate) : Type 0 where
+  pub matrix_is : c.matrix ≡ matrix
+  pub order_is : c.order ≡ order
+  pub reduced : IsReducedBasis matrix order c.rules
+  pub valid : IsValid c
+  pub basis : IsMarkovBasis matrix c.moves
 
 certified : (matrix : Design) (order : Order) (pairs : ℕ) (final : List Rule) (looks : ℕ) →
     IsDesign matrix → RunEnds matrix order pairs (Finished final looks) →
@@ -90,39 +90,60 @@ basis_fits words w plan e =
     kept_fits Basis words.name (Some (Model, words.model))
     (basis_text words.model (a.0).certificate) (completion_lines a.0) w plan a.2
 
+-- what is known of the completion of the model of a name
+pub record IsCompleted (words : BasisWords) (rows : Rows) (completion : Completion) : Type 0 where
+  pub dataset : List ℕ
+  pub model : ModelValue
+  pub there : found (model_named words.model) rows ≡ Ok (dataset, model)
+  pub final : List Rule
+  pub ran : RunEnds model.matrix words.order words.looks (Finished final completion.looks)
+  pub made : IsOf model.matrix words.order completion.certificate
+
+pub is_completed : (words : BasisWords) (rows : Rows) (completion : Completion) →
+    completed_named words rows ≡ Ok completion → IsCompleted words rows completion
+unfolding completed
+is_completed words rows completion e =
+    let b = bind_ok (found (model_named words.model) rows)
+    (λ model. completed model.1.matrix words.order words.looks) completion e in
+    let model = (b.0).1 in
+    let design = (model_sound rows words.model (b.0).0 model b.1).design in
+    let run = completion_is model.matrix words.order
+    (outcome_of model.matrix words.order words.looks) completion b.2 in
+    let own = runs-computed model.matrix words.order design words.looks (births_of model.matrix) 0
+    (births-valid words.order model.matrix.rows model.matrix.columns design.each) in
+    let ran = subst (RunEnds model.matrix words.order words.looks) run.1 own in
+    record {
+      dataset = (b.0).0;
+      model = model;
+      there = b.1;
+      final = run.0;
+      ran = ran;
+      made = subst (IsOf model.matrix words.order) run.2
+          (certified model.matrix words.order words.looks run.0 completion.looks design ran);
+    }
+
 -- and its answer has its meaning
 pub basis_means : (words : BasisWords) (w : World) (plan : Plan) →
     basis_plan words w.rows ≡ Ok plan →
     AnswersBasis words w.rows (changed plan.change w).rows plan.answer
-unfolding completed
 basis_means words w plan e =
     let a = bind_ok (completed_named words w.rows) (λ c.
     kept_plan Basis words.name (Some (Model, words.model)) (basis_text words.model c.certificate)
     (completion_lines c) w.rows) plan e in
-    let b = bind_ok (found (model_named words.model) w.rows)
-    (λ model. completed model.1.matrix words.order words.looks) a.0 a.1 in
-    let model = (b.0).1 in
-    let design = (model_sound w.rows words.model (b.0).0 model b.1).design in
-    let run = completion_is model.matrix words.order
-    (outcome_of model.matrix words.order words.looks) a.0 b.2 in
-    let own = runs-computed model.matrix words.order design words.looks (births_of model.matrix) 0
-    (births-valid words.order model.matrix.rows model.matrix.columns design.each) in
-    let ran = subst (RunEnds model.matrix words.order words.looks) run.1 own in
-    let is = subst (IsOf model.matrix words.order) run.2
-    (certified model.matrix words.order words.looks run.0 (a.0).looks design ran) in
+    let is = is_completed words w.rows a.0 a.1 in
     record {
-      dataset = (b.0).0;
-      model = model;
+      dataset = is.dataset;
+      model = is.model;
       certificate = (a.0).certificate;
-      final = run.0;
+      final = is.final;
       looks = (a.0).looks;
-      model_there = has_model w.rows words.model (b.0).0 model b.1;
-      matrix = is.matrix_is;
-      order = is.order_is;
-      completed = ran;
-      reduced = is.reduced;
-      valid = is.valid;
-      basis = is.basis;
+      model_there = has_model w.rows words.model is.dataset is.model is.there;
+      matrix = is.made.matrix_is;
+      order = is.made.order_is;
+      completed = is.ran;
+      reduced = is.made.reduced;
+      valid = is.made.valid;
+      basis = is.made.basis;
       kept = kept_means Basis words.name (Some (Model, words.model))
           (basis_text words.model (a.0).certificate) (completion_lines a.0) w plan a.2;
     }

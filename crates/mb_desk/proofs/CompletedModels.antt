@@ -85,7 +85,7 @@ refused-free (Some refusal) x says h = absurd (cc)
 
 module _ (c : Certificate) (parts : AreParts c) (valid : IsValid c) where
   -- a valid certificate is judged right
-  judged-right : judged c ≡ Ok c
+  pub judged-right : judged c ≡ Ok c
   judged-right = ap (judged_by c) (none-valid c parts valid)
 
   -- so its judging gives it back

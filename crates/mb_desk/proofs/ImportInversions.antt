@@ -48,6 +48,7 @@ use Rattle.mb_tables.proofs.ListLaws.{In-filter, In-map_range, In-place, In-rang
 use Rattle.mb_tables.specs.Answers.{◌>>=◌}
 use Rattle.mb_tables.specs.Lists.{In}
 use Rattle.mb_tables.specs.Rows.{Rows}
+use Rattle.mb_text.specs.Name.{IsName}
 use Rattle.mb_walk.proofs.GivenPaths.{beside-valid}
 use Rattle.mb_walk.specs.Beside.{AreLeastPaths, AreMovesOf, IsPathOf, left_table, right_table, with_moves}
 use Rattle.mb_walk.specs.Between.{ball}
@@ -178,10 +179,10 @@ width_from matrix moves e =
     let f = a.0 in grind (arith, nat_tests)
 
 -- what is known of moves that were accepted beside a certificate
-record AreBeside (limit : ℕ) (c : Certificate) (moves : Rows) (new : Certificate) : Type 0 where
-  are : AreMovesOf c.matrix moves
-  made : new ≡ with_moves c moves.rows new.paths
-  least : AreLeastPaths limit c moves.rows (free_rules c.matrix.rows c.rules) new.paths
+pub record AreBeside (limit : ℕ) (c : Certificate) (moves : Rows) (new : Certificate) : Type 0 where
+  pub are : AreMovesOf c.matrix moves
+  pub made : new ≡ with_moves c moves.rows new.paths
+  pub least : AreLeastPaths limit c moves.rows (free_rules c.matrix.rows c.rules) new.paths
 
 beside_from : (limit : ℕ) (c : Certificate) (moves : Rows) (new : Certificate) →
     beside_of limit c moves ≡ Ok new → AreBeside limit c moves new
@@ -235,15 +236,18 @@ import_fits words w plan e =
     (certificate_lines (b.0).1) w plan b.2
 
 -- what is known of a certificate that was proved by moves
-record IsImported (words : ImportWords) (moves : Rows) (w : World)
+pub record IsImported (words : ImportWords) (moves : Rows) (w : World)
     (proved : List ℕ × Certificate) : Type 0 where
-  named : Certificate
-  there : get w.rows (key_of Basis words.basis) ≡ Some (basis_text proved.0 named)
-  parts : AreParts named
-  valid : IsValid named
-  beside : AreBeside words.limit named moves proved.1
+  pub named : Certificate
+  pub found_there : found (basis_named words.basis) w.rows ≡ Ok (proved.0, named)
+  pub there : get w.rows (key_of Basis words.basis) ≡ Some (basis_text proved.0 named)
+  pub of_model : IsName proved.0
+  pub parts : AreParts named
+  pub valid : IsValid named
+  pub beside : AreBeside words.limit named moves proved.1
+  pub valid_new : IsValid proved.1
 
-is_imported : (words : ImportWords) (moves : Rows) (w : World) (proved : List ℕ × Certificate) →
+pub is_imported : (words : ImportWords) (moves : Rows) (w : World) (proved : List ℕ × Certificate) →
     imported words moves w.rows ≡ Ok proved → IsImported words moves w proved
 is_imported words moves w proved e =
     let a =
@@ -255,14 +259,20 @@ is_imported words moves w proved e =
     let right = judged_ok (a.0).1 d.0 (first_fault (a.0).1) d.1 in
     let has = has_basis w.rows words.basis (a.0).0 (a.0).1 a.1 in
     let read = has.2 in
+    let valid = valid-none (a.0).1 read.parts right.1 in
+    let beside = subst (λ c. AreBeside words.limit c moves b.0) (sym right.0)
+    (beside_from words.limit d.0 moves b.0 d.2) in
     let same : ◌≡◌ {A = List ℕ × Certificate} ((a.0).0, b.0) proved = cc in
     subst (IsImported words moves w) same (record {
       named = (a.0).1;
+      found_there = a.1;
       there = has.1 ∙ ap Some read.written;
+      of_model = read.named;
       parts = read.parts;
-      valid = valid-none (a.0).1 read.parts right.1;
-      beside = subst (λ c. AreBeside words.limit c moves b.0) (sym right.0)
-          (beside_from words.limit d.0 moves b.0 d.2);
+      valid = valid;
+      beside = beside;
+      valid_new = subst IsValid (sym beside.made)
+          (beside-valid words.limit (a.0).1 moves (b.0).paths valid beside.are beside.least);
     })
 
 -- its answer has its meaning
@@ -288,9 +298,7 @@ import_means words w plan e =
       new = (b.0).1;
       made = is.beside.made;
       least = is.beside.least;
-      valid = subst IsValid (sym is.beside.made)
-          (beside-valid words.limit is.named a.0 ((b.0).1).paths is.valid is.beside.are
-          is.beside.least);
+      valid = is.valid_new;
       basis = beside_markov words.limit is.named a.0 (b.0).1 is.parts is.valid is.beside;
       kept = kept_means Basis words.name (Some (Model, (b.0).0)) (basis_text (b.0).0 (b.0).1)
           (certificate_lines (b.0).1) w plan b.2;

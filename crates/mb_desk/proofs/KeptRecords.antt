@@ -39,18 +39,24 @@ pub kept_ok : (kind : Kind) (name : List ℕ) (rows : Rows) (body : List ℕ) �
 kept_ok kind name rows body e =
     ok_or_ok (get rows (key_of kind name)) (Unknown kind name) body e
 
--- what was found under a kind and a name is what the body there is read as
-pub kept_as_ok : {A : Type 0} (kind : Kind) (read : List ℕ → Option A) (name : List ℕ)
-    (rows : Rows) (x : A) → found (kept_as kind read name) rows ≡ Ok x →
+-- what a look-up under a kind and a name gives is what the body there is read as
+pub kept_as_is : {A : Type 0} (kind : Kind) (read : List ℕ → Option A) (name : List ℕ)
+    (rows : Rows) (x : A) → kept_as kind read name rows ≡ Ok x →
     (body : List ℕ) × (get rows (key_of kind name) ≡ Some body) × (read body ≡ Some x)
-kept_as_ok kind read name rows x e =
+kept_as_is kind read name rows x e =
     let a =
-    bind_ok (kept kind name rows) (λ body. ok_or (read body) (BadRecord kind name)) x
-    (found_ok (kept_as kind read name) rows x e) in (
+    bind_ok (kept kind name rows) (λ body. ok_or (read body) (BadRecord kind name)) x e in (
       a.0,
       kept_ok kind name rows a.0 a.1,
       ok_or_ok (read a.0) (BadRecord kind name) x a.2,
     )
+
+-- so is what was found there
+pub kept_as_ok : {A : Type 0} (kind : Kind) (read : List ℕ → Option A) (name : List ℕ)
+    (rows : Rows) (x : A) → found (kept_as kind read name) rows ≡ Ok x →
+    (body : List ℕ) × (get rows (key_of kind name) ≡ Some body) × (read body ≡ Some x)
+kept_as_ok kind read name rows x e =
+    kept_as_is kind read name rows x (found_ok (kept_as kind read name) rows x e)
 
 -- ---- kept
 
@@ -60,7 +66,7 @@ WasBefore body old Stored = old ≡ None
 WasBefore body old Unchanged = old ≡ Some body
 
 -- a record is stored only where there was none, and left only where its body was there
-was_before : (body : List ℕ) (old : Option (List ℕ)) (added : Added) →
+pub was_before : (body : List ℕ) (old : Option (List ℕ)) (added : Added) →
     beside_kept body old ≡ Ok added → WasBefore body old added
 was_before body None added e = let same : Stored ≡ added = cc in subst (WasBefore body None) same refl
 was_before body (Some old) added e = by (bytes_eq old body) refl e
@@ -73,7 +79,7 @@ was_before body (Some old) added e = by (bytes_eq old body) refl e
         subst (WasBefore body (Some old)) same (ap Some ((bytes_eq-Decides old body).0 test))
 
 -- what was there before a record that is kept
-kept_before : (kind : Kind) (name : List ℕ) (reference : Option (Kind × List ℕ)) (body : List ℕ)
+pub kept_before : (kind : Kind) (name : List ℕ) (reference : Option (Kind × List ℕ)) (body : List ℕ)
     (rows : Rows) (added : Added) → added_to kind name reference body rows ≡ Ok added →
     WasBefore body (get rows (key_of kind name)) added
 unfolding added_to
@@ -91,7 +97,7 @@ added_fits kind name body lines w Stored none = λ misses. misses none
 added_fits kind name body lines w Unchanged same = λ misses. misses
 
 -- the record is kept
-added_means : (kind : Kind) (name body lines : List ℕ) (w : World) (added : Added) →
+pub added_means : (kind : Kind) (name body lines : List ℕ) (w : World) (added : Added) →
     WasBefore body (get w.rows (key_of kind name)) added →
     IsKept kind name body lines w.rows
     (changed (added_plan kind name body lines added).change w).rows

@@ -79,7 +79,7 @@ has_basis rows name model c e =
 -- ---- dataset
 
 -- a dataset that was read is kept
-abbrev keeps_dataset : List ℕ → World → CrossTable → Decided Plan
+abbrev pub keeps_dataset : List ℕ → World → CrossTable → Decided Plan
 keeps_dataset name w table =
     kept_plan Dataset name None (written table) (cells_line table) w.rows
 
@@ -116,10 +116,10 @@ second_there (Some file) held text e =
     (a.0, cc, body_there 2 (get held file) a.0 a.1)
 
 -- the texts of the files of `model` were there
-record HasTexts (words : ModelWords) (held : Held) (texts : List ℕ × Option (List ℕ))
+pub record HasTexts (words : ModelWords) (held : Held) (texts : List ℕ × Option (List ℕ))
     : Type 0 where
-  there : get held words.file ≡ Some texts.0
-  matrix_there : MayHold held words.matrix texts.1
+  pub there : get held words.file ≡ Some texts.0
+  pub matrix_there : MayHold held words.matrix texts.1
 
 has_texts : (words : ModelWords) (held : Held) (texts : List ℕ × Option (List ℕ)) →
     model_texts words held ≡ Ok texts → HasTexts words held texts
@@ -135,16 +135,16 @@ has_texts words held texts e =
     })
 
 -- what is known of a model that is kept
-record KeepsModel (words : ModelWords) (w : World) (plan : Plan) : Type 0 where
-  texts : List ℕ × Option (List ℕ)
-  there : HasTexts words w.files texts
-  table : CrossTable
-  dataset : found (dataset_named words.dataset) w.rows ≡ Ok table
-  model : ModelValue
-  read : model_of texts.0 texts.1 table ≡ Ok model
-  keeps : model_kept words.name words.dataset model w.rows ≡ Ok plan
+pub record KeepsModel (words : ModelWords) (w : World) (plan : Plan) : Type 0 where
+  pub texts : List ℕ × Option (List ℕ)
+  pub there : HasTexts words w.files texts
+  pub table : CrossTable
+  pub dataset : found (dataset_named words.dataset) w.rows ≡ Ok table
+  pub model : ModelValue
+  pub read : model_of texts.0 texts.1 table ≡ Ok model
+  pub keeps : model_kept words.name words.dataset model w.rows ≡ Ok plan
 
-keeps_model : (words : ModelWords) (w : World) (plan : Plan) → model_plan words w ≡ Ok plan →
+pub keeps_model : (words : ModelWords) (w : World) (plan : Plan) → model_plan words w ≡ Ok plan →
     KeepsModel words w plan
 keeps_model words w plan e =
     let a = bind_ok (model_texts words w.files) (λ texts. model_added words texts w.rows) plan e in

@@ -3,10 +3,10 @@ use Rattle.std.proofs.Common.{Bool, Err, false, true, List, None, Ok, Option, Re
 use Rattle.std.specs.FinMap.{empty}
 use Rattle.mb_desk.proofs.EachCommand.{plan_fits}
 use Rattle.mb_desk.proofs.Making.{Made, Makes, file_blamed, makes}
-use Rattle.mb_desk.proofs.Told.{after_same, told_by, weakened}
+use Rattle.mb_desk.proofs.Told.{after_same, both_told, told_by, weakened}
 use Rattle.mb_desk.specs.Changes.{ChangesRows, FilesLeft, KeeperLeft, RowsLeft, WritesFile, changed_rows}
 use Rattle.mb_desk.specs.Commands.{needs_of, plan_of}
-use Rattle.mb_desk.specs.Decision.{Decided, Does, Follows, HaveCause, HaveStayed, Scene, blames}
+use Rattle.mb_desk.specs.Decision.{Decided, Does, Follows, HaveCause, HaveStayed, InWorld, Scene, blames}
 use Rattle.mb_desk.specs.Ends.{Commits, EachLeft, Ended, Ends, Leaves, Stays}
 use Rattle.mb_desk.specs.Needs.{Both, FilesAlone, Needs, Neither, RowsAlone, Touches, needed, needed_files, needed_rows, told_or}
 use Rattle.mb_desk.specs.World.{World, world_of}
@@ -188,6 +188,33 @@ does_alone s answer decided follows own = record {
   cause = subst (λ blamed. HaveCause s s blamed) (sym own) (refl, refl);
 }
 
+-- a fact of the work, from one of its plan and what the change of the plan makes of the world
+pub of_work : (request : Request) (before between after : Scene) (plan : Plan) (made : Made)
+    (First Whole : World → World → Type 0) →
+    Does (needed (needs_of request) before) (needed (needs_of request) between) (Ok plan)
+    (plan_of request) → Touches (needs_of request) plan.change →
+    Commits between after plan.change made →
+    InWorld (needed (needs_of request) before) (needed (needs_of request) between) First →
+    ((w v : World) → First w w → plan_of request w ≡ Ok plan →
+    Makes plan.change w v (Rose between.files_failed after.files_failed) made → Whole w v) →
+    InWorld (needed (needs_of request) before) (needed (needs_of request) after) Whole
+of_work request before between after plan made First Whole does touches commits first both =
+    let needs = needs_of request in
+    let f0 = needed_files needs before.files in
+    let f1 = needed_files needs between.files in
+    let f2 = needed_files needs after.files in
+    let r0 = needed_rows needs before.rows in
+    let r1 = needed_rows needs between.rows in
+    let r2 = needed_rows needs after.rows in
+    chained (λ w v. First w v × (plan_of request w ≡ Ok plan)) _ Whole f0 f1 f2 r0 r1 r2 does.files
+    does.rows (both_told First _ (world_of f0 r0) (world_of f1 r1) first does.decided)
+    (makes plan.change f1 f2 r1 r2 (Rose between.files_failed after.files_failed) made
+    (files_needed needs plan.change _ _ made touches commits.files)
+    (rows_needed needs plan.change _ _ _ _ made touches commits.files commits.rows commits.keeper)
+    (λ is e. file_blamed plan.change between after is (commits.blamed e)))
+    (λ w v decided made_it.
+    both w v decided.0 decided.1 (made_it (plan_fits request w plan decided.1)))
+
 -- a plan and its change are the work
 pub committed : (request : Request) (before between after : Scene) (plan : Plan) (made : Made) →
     Does (needed (needs_of request) before) (needed (needs_of request) between) (Ok plan)
@@ -198,18 +225,10 @@ pub committed : (request : Request) (before between after : Scene) (plan : Plan)
 committed request before between after plan made does touches commits =
     let needs = needs_of request in
     record {
-      left = chained _ _ _ (needed_files needs before.files) (needed_files needs between.files)
-          (needed_files needs after.files) (needed_rows needs before.rows)
-          (needed_rows needs between.rows) (needed_rows needs after.rows) does.files does.rows
-          does.decided
-          (makes plan.change _ _ _ _ (Rose between.files_failed after.files_failed) made
-          (files_needed needs plan.change _ _ made touches commits.files)
-          (rows_needed needs plan.change _ _ _ _ made touches commits.files commits.rows
-          commits.keeper)
-          (λ is e. file_blamed plan.change between after is (commits.blamed e)))
-          (λ w v decided made_it.
+      left = of_work request before between after plan made _ _ does touches commits does.decided
+          (λ w v first decided made_it.
           leaves (plan_of request w) w v plan _ _ (rose_before _ _ _ does.cause.0) made decided
-          (made_it (plan_fits request w plan decided)));
+          made_it);
       cause = cause_needed needs before after (blames (after_commit plan.answer made))
           (caused plan.answer made before between after does.cause commits.cause);
     }

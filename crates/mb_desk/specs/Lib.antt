@@ -36,6 +36,8 @@ pub mod Refusals
 pub mod RemoveCommand
 pub mod Reply
 pub mod ReportCommand
+pub mod Sound
+pub mod SoundLaws
 pub mod StoredAnswers
 pub mod Values
 pub mod Words

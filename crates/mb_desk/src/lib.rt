@@ -29,7 +29,10 @@ mod words;
 mod work;
 
 pub use exact_test::{Figures, NumbersFault, numbers};
-pub use laws::{calls_are_replayed, repeats_alike};
+pub use laws::{
+    calls_are_replayed, repeats_alike, repeats_are_unchanged, sound_is_not_refused,
+    steps_keep_soundness,
+};
 pub use limits::{FiberLimit, Limit, Looks};
 pub use mb_registry::{Body, Kind, Text};
 pub use parts::Part;

@@ -7,6 +7,7 @@ ghost use Rattle.mb_desk.specs.Decision.{InWorld, scene};
 ghost use Rattle.mb_desk.specs.Ends.{EachLeft};
 ghost use Rattle.mb_desk.specs.Headline.{Answers};
 ghost use Rattle.mb_desk.specs.Reply.{EndsAndPuts, Puts, no_request};
+ghost use Rattle.mb_desk.specs.Sound.{AreSound};
 ghost use Rattle.mb_desk.specs.Words.{request_of, texts};
 ghost use Rattle.mb_desk.specs.declared.plans.Plan.{Plan};
 ghost use Rattle.mb_desk.specs.declared.plans.Stop.{Stop};
@@ -93,6 +94,14 @@ pub fn desk<R: Threads + Sync, F: Files, K: Keeper, S: Sink, G: Gate + Sync>(
     ensures each_done { result ≡ Status.Done → IfSome (request_of (texts words.now)) (λ request.
         EachLeft (needs_of request)
         (F.held files.old) (F.held files.new) (K.rows keeper.old) (K.rows keeper.new) (Ok tt)) }
+
+    // Whatever becomes of a request, rows that were sound are sound.
+    ensures sound { IfSome (request_of (texts words.now)) (λ request. InWorld
+        (scene_for request
+        (F.held files.old) (F.faults files.old) (K.rows keeper.old) (K.faults keeper.old))
+        (scene_for request
+        (F.held files.new) (F.faults files.new) (K.rows keeper.new) (K.faults keeper.new))
+        (λ before after. AreSound before.rows → AreSound after.rows)) }
 
     // A fault comes exactly where a count rose, and no count falls.
     ensures outside { result ≡ Status.Outside

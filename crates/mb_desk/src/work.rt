@@ -1,9 +1,11 @@
 //! The work of a request: its plan, and then its one change.
 ghost use Rattle.std.specs.Prelude.{◌≡◌, Err, IfOk, Ok, Result};
 ghost use Rattle.mb_desk.specs.Commands.{needs_of, plan_of, scene_for};
-ghost use Rattle.mb_desk.specs.Decision.{Does};
+ghost use Rattle.mb_desk.specs.Decision.{Does, InWorld};
 ghost use Rattle.mb_desk.specs.Ends.{EachLeft, Ends, Stays};
 ghost use Rattle.mb_desk.specs.Needs.{Touches};
+ghost use Rattle.mb_desk.specs.Sound.{AreSound};
+ghost use Rattle.mb_desk.specs.SoundLaws.{CanBeSaid, IsRequest};
 ghost use Rattle.mb_desk.specs.declared.plans.Stop.{Stop as Stops};
 ghost use Rattle.mb_outside.specs.Told.{WhereTold};
 
@@ -18,6 +20,45 @@ use mb_outside::{Files, Gate, Keeper};
 use mb_registry::Body;
 use std::alloc::Global;
 use std::thread::Threads;
+
+/// A name that is kept has the form of names, and a limit is within its range.
+fn see_words(request: &Request<'_>)
+    ensures { IsRequest request.now }
+{
+    match request {
+        Request::Moves(_) => {}
+        Request::Reach(_) => {}
+        Request::Check { certificate: _ } => {}
+        Request::Generate {
+            seed: _,
+            workers: _,
+        } => {}
+        Request::Dataset { name, file: _ } => {
+            let _name = name.as_str();
+        }
+        Request::Model(words) => {
+            let _name = words.name.as_str();
+        }
+        Request::Basis(words) => {
+            let _name = words.name.as_str();
+        }
+        Request::Import(words) => {
+            let _name = words.name.as_str();
+        }
+        Request::Analyse(words) => {
+            let _name = words.name.as_str();
+            let _limit = words.limit.tables();
+        }
+        Request::Report { name: _ } => {}
+        Request::List => {}
+        Request::Export {
+            part: _,
+            name: _,
+            file: _,
+        } => {}
+        Request::Remove { kind: _, name: _ } => {}
+    }
+}
 
 /// The plan of a request, or its first refusal. Nothing is stored.
 fn plan<'a, R: Threads + Sync, F: Files, K: Keeper, G: Gate + Sync>(
@@ -38,7 +79,14 @@ fn plan<'a, R: Threads + Sync, F: Files, K: Keeper, G: Gate + Sync>(
     ensures same_files { F.held files.new ≡ F.held files.old }
     ensures same_rows { WhereTold (K.rows keeper.old) (K.rows keeper.new) (λ before after.
         after ≡ before) }
+    ensures said { IfOk result (λ _. InWorld
+        (scene_for request.now
+        (F.held files.old) (F.faults files.old) (K.rows keeper.old) (K.faults keeper.old))
+        (scene_for request.now
+        (F.held files.new) (F.faults files.new) (K.rows keeper.new) (K.faults keeper.new))
+        (λ w _. IsRequest request.now × CanBeSaid request.now w)) }
 {
+    see_words(request);
     match request {
         Request::Moves(words) => moves::plan(alloc, files, words),
         Request::Reach(words) => reach::plan(rt, alloc, files, words, gate),
@@ -81,6 +129,12 @@ pub fn work<R: Threads + Sync, F: Files, K: Keeper, G: Gate + Sync>(
     ensures each_failed { result ≡ Err Stop.Outside → (made : Result (Unit {0}) Stops)
         × EachLeft (needs_of request.now)
         (F.held files.old) (F.held files.new) (K.rows keeper.old) (K.rows keeper.new) made }
+    ensures sound { InWorld
+        (scene_for request.now
+        (F.held files.old) (F.faults files.old) (K.rows keeper.old) (K.faults keeper.old))
+        (scene_for request.now
+        (F.held files.new) (F.faults files.new) (K.rows keeper.new) (K.faults keeper.new))
+        (λ before after. AreSound before.rows → AreSound after.rows) }
 {
     let Plan { answer, change } = match plan(rt, alloc, files, keeper, request, gate) {
         Ok(planned) => planned,

@@ -7,6 +7,7 @@ pub mod PlacesLeft
 pub mod Placing
 pub mod RangeSteps
 pub mod ReadLines
+pub mod ReadModels
 pub mod ReadTexts
 pub mod RecordSteps
 pub mod RowReading

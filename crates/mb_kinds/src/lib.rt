@@ -23,7 +23,7 @@ mod record_rows;
 mod record_written;
 
 pub use kind_fault::{KindFault, ModelKey};
-pub use kind_laws::rasch_is_hierarchical;
+pub use kind_laws::{rasch_is_hierarchical, read_model_is_sound};
 pub use laws::{read_record_is_written, written_record_is_read};
 pub use mb_text::{RecordFault, is_name};
 pub use model::Model;

@@ -11,7 +11,8 @@ use std::thread::Threads;
 /// A text in pieces, one after the other.
 pub type Pieces = &'static [&'static str];
 
-/// A step of a session. Kinds are numbers: 1 a dataset, 2 a model, 3 a basis, 4 an analysis.
+/// A step of a list of commands. Kinds are numbers: 1 a dataset, 2 a model, 3 a basis, 4 an
+/// analysis.
 #[derive(Clone, Copy)]
 pub enum Step {
     /// A file of this name is written.

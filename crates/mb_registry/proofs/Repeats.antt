@@ -34,7 +34,7 @@ beside_itself : (body : List ℕ) → beside_kept body (Some body) ≡ Ok Unchan
 beside_itself body = ap (λ b. if b then Ok Unchanged else Err (Conflict body)) (same_text body)
 
 -- a record whose body is kept, and whose reference is there
-kept_unchanged : (kind : Kind) (name : List ℕ) (reference : Option (Kind × List ℕ))
+pub kept_unchanged : (kind : Kind) (name : List ℕ) (reference : Option (Kind × List ℕ))
     (body : List ℕ) (rows : Rows) → IsThere reference rows →
     get rows (key_of kind name) ≡ Some body →
     added_of kind name reference body rows ≡ Ok Unchanged

@@ -1,40 +1,48 @@
 -- What a worker claims of the keys of tables: of those one step from a table, and from a share.
 use Rattle.std.proofs.Common.{List, Some, arith, get_or, inl, inr, length, slice_get, subst, sym, ℕ, ℤ, ◌+◌, ◌<◌, ◌≡◌, ◌⊎◌, ⊎_elim}
 use Rattle.std.proofs.lemmas.Option.{slice_get-get_or}
-use Rattle.mb_matrix.specs.Key.{IsDelta, key_of}
 use Rattle.mb_matrix.specs.declared.digit.Digit.{Digit}
 use Rattle.mb_tables.proofs.ListLaws.{place-within}
-use Rattle.mb_tables.specs.Step.{IsNear, Moved, OneApart}
-use Rattle.mb_tables.specs.declared.sign.Sign.TheVariants.{Minus, Plus}
+use Rattle.mb_tables.specs.Step.{IsNear, OneApart}
 use Rattle.mb_walk.proofs.ClaimSteps.{claims-none, claims-same, claims-then}
-use Rattle.mb_walk.proofs.PlacesBelow.{NearBelow, Steps, SteppedBelow, all-near, all-stepped, below-cases, below-more, below-none, some-near, some-stepped, stepped-cases, stepped-more}
+use Rattle.mb_walk.proofs.PlacesBelow.{NearBelow, Steps, SteppedBelow, all-near, all-stepped, below-cases, below-more, below-none, some-near, some-stepped}
 use Rattle.mb_walk.specs.Claimed.{IsKeyOf}
 use Rattle.mb_walk.specs.Ring.{Ring}
-use Rattle.mb_walk.specs.loops.Worked.{AreDeltas, Claims, HasKeyedSteps, IsKeyed}
+use Rattle.mb_walk.specs.loops.Needs.{AreSteps, IsStepOf}
+use Rattle.mb_walk.specs.loops.Worked.{Claims, HasKeyedSteps, IsKeyed}
+use Rattle.mb_walk.specs.declared.needs.Need.{Need}
+use Rattle.mb_walk.specs.declared.step_list.StepList.{StepList}
+use Rattle.mb_walk.specs.declared.step_list.StepOf.{StepOf}
 use Rattle.mb_walk.specs.declared.worker.Worker.{Worker}
 
 -- what a step makes of a table has a key
-pub step-keyed : (digits : List Digit) (width : ℕ) (rows items : List (List ℤ)) (u now : List ℕ)
-    (k : ℕ) (move : List ℤ) → HasKeyedSteps digits width rows u → items ≡ rows → now ≡ u →
-    slice_get items k ≡ Some move → (v : List ℕ) → Steps now v move → IsKeyed digits v
-step-keyed digits width rows items u now k move h e same there v a =
+pub step-keyed : (digits : List Digit) (width : ℕ) (rows items : List (List ℤ)) (u : List ℕ)
+    (k : ℕ) (move : List ℤ) → HasKeyedSteps digits width rows u → items ≡ rows →
+    slice_get items k ≡ Some move → (v : List ℕ) → Steps u v move → IsKeyed digits v
+step-keyed digits width rows items u k move h e there v a =
     h.steps v (
       k,
       move,
       subst (λ (list : List (List ℤ)). slice_get list k ≡ Some move) e there,
-      subst (λ (t : List ℕ). Steps t v move) same a,
+      a,
     )
 
--- what the move of a place adds to a key
-pub delta-at : (digits : List Digit) (rows items : List (List ℤ)) (deltas : List ℕ) (k : ℕ)
-    (move : List ℤ) → AreDeltas digits rows deltas → items ≡ rows →
-    slice_get items k ≡ Some move → IsDelta (key_of digits) digits move (get_or deltas k 0)
-delta-at digits rows items deltas k move h e there =
+-- the step of the move of a place
+pub step-at : (digits : List Digit) (width cells : ℕ) (rows items : List (List ℤ))
+    (steps : StepList) (list : List StepOf) (needs : List Need) (k : ℕ) (move : List ℤ)
+    (d : StepOf) → AreSteps digits width rows steps → items ≡ rows → cells ≡ width →
+    list ≡ steps.list.items → needs ≡ steps.needs.items → slice_get items k ≡ Some move →
+    IsStepOf digits cells move (get_or list k d) needs
+step-at digits width cells rows items steps list needs k move d h e wide f g there =
     let here : slice_get rows k ≡ Some move =
     subst (λ (list : List (List ℤ)). slice_get list k ≡ Some move) e there in
     let l : k < length rows = place-within rows k move here in
-    let m : k < length deltas = omega (arith, h.count) in
-    h.each k move (get_or deltas k 0) here (slice_get-get_or deltas k 0 m)
+    let m : k < length steps.list.items = omega (arith, h.count) in
+    subst (λ (n : ℕ). IsStepOf digits n move (get_or list k d) needs) (sym wide)
+    (subst (λ (parts : List Need). IsStepOf digits width move (get_or list k d) parts) (sym g)
+    (subst (λ (xs : List StepOf). IsStepOf digits width move (get_or xs k d) steps.needs.items)
+    (sym f)
+    (h.each k move (get_or steps.list.items k d) here (slice_get-get_or steps.list.items k d m))))
 
 module _ (digits : List Digit) where
   -- keys of the same tables
@@ -63,20 +71,16 @@ module _ (digits : List Digit) where
       (claims-then (IsKeyOf digits P) (IsKeyOf digits Q) before middle after f g)
 
   -- a move more is added and subtracted
-  pub claimed-step : (moves : List (List ℤ)) (i : ℕ) (move : List ℤ) (u : List ℕ) →
-      slice_get moves i ≡ Some move → (first second third last : Worker) →
+  pub claimed-move : (moves : List (List ℤ)) (i : ℕ) (move : List ℤ) (u : List ℕ) →
+      slice_get moves i ≡ Some move → (first second last : Worker) →
       Claims (IsKeyOf digits (SteppedBelow moves i u)) first second →
-      Claims (IsKeyOf digits (Moved Plus u move)) second third →
-      Claims (IsKeyOf digits (Moved Minus u move)) third last →
+      Claims (IsKeyOf digits (λ v. Steps u v move)) second last →
       Claims (IsKeyOf digits (SteppedBelow moves (i + 1) u)) first last
-  claimed-step moves i move u there first second third last f g h =
-      claims-both (λ v. SteppedBelow moves i u v ⊎ Moved Plus u move v) (Moved Minus u move)
-      (SteppedBelow moves (i + 1) u) first third last
-      (λ v k. stepped-more moves i move u v there k)
-      (λ v k. stepped-cases moves i move u v there k)
-      (claims-both (SteppedBelow moves i u) (Moved Plus u move)
-      (λ v. SteppedBelow moves i u v ⊎ Moved Plus u move v) first second third
-      (λ v k. k) (λ v k. k) f g) h
+  claimed-move moves i move u there first second last f g =
+      claims-both (SteppedBelow moves i u) (λ v. Steps u v move) (SteppedBelow moves (i + 1) u)
+      first second last
+      (λ v k. below-more moves i move (Steps u v) there k)
+      (λ v k. below-cases moves i move (Steps u v) there k) f g
 
   -- all moves are tried
   pub claimed-all : (moves items : List (List ℤ)) (i : ℕ) (u : List ℕ) (before after : Worker) →

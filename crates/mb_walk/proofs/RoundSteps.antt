@@ -57,14 +57,14 @@ get-further x y xs k e =
     subst (λ n. slice_get (x ∷ xs) n ≡ Some y) step e
 
 -- a list has an element at each of its places
-element : {X : Type 0} (xs : List X) (i : ℕ) → i < length xs →
+pub element : {X : Type 0} (xs : List X) (i : ℕ) → i < length xs →
     (x : X) × (slice_get xs i ≡ Some x)
 element [] i l = absurd (omega arith)
 element (x ∷ xs) ℕ.zero l = (x, refl)
 element (x ∷ xs) (ℕ.suc i) l = element xs i (omega arith)
 
 -- what stands in a list of lists stands in one of them
-In-flat : {X Y : Type 0} (f : X → List Y) (y : Y) (xs : List X) → In y (flat_map f xs) →
+pub In-flat : {X Y : Type 0} (f : X → List Y) (y : Y) (xs : List X) → In y (flat_map f xs) →
     (i : ℕ) × (x : X) × (slice_get xs i ≡ Some x) × In y (f x)
 unfolding In
 In-flat f y [] h = absurd h
@@ -75,7 +75,7 @@ In-flat f y (x ∷ xs) h =
     ]
 
 -- and the other way round
-flat-In : {X Y : Type 0} (f : X → List Y) (y : Y) (xs : List X) (i : ℕ) (x : X) →
+pub flat-In : {X Y : Type 0} (f : X → List Y) (y : Y) (xs : List X) (i : ℕ) (x : X) →
     slice_get xs i ≡ Some x → In y (f x) → In y (flat_map f xs)
 flat-In f y [] i x e j = cc
 flat-In f y (z ∷ xs) ℕ.zero x e j =

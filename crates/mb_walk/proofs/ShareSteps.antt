@@ -10,12 +10,12 @@ use Rattle.mb_walk.specs.Share.{share_of, share_start}
 use Rattle.mb_walk.specs.loops.Rounds.{FallsTo, IsNearBefore}
 
 -- what stands among the first elements stands in the list
-In-taken : {X : Type 0} (n : ℕ) (x : X) (xs : List X) → In x (take n xs) → In x xs
+pub In-taken : {X : Type 0} (n : ℕ) (x : X) (xs : List X) → In x (take n xs) → In x xs
 In-taken n x xs i =
     subst (λ list. In x list) (take-append-drop n xs) (In-left x (take n xs) (drop n xs) i)
 
 -- and what stands among the others
-In-dropped : {X : Type 0} (n : ℕ) (x : X) (xs : List X) → In x (drop n xs) → In x xs
+pub In-dropped : {X : Type 0} (n : ℕ) (x : X) (xs : List X) → In x (drop n xs) → In x xs
 In-dropped n x xs i =
     subst (λ list. In x list) (take-append-drop n xs) (In-right x (take n xs) (drop n xs) i)
 
@@ -59,7 +59,7 @@ between b e p (suc n) l =
     (lower p (b n))
 
 -- the first share begins at the first place
-starts-first : (r k : ℕ) → 0 < k → share_start 0 r k ≡ 0
+pub starts-first : (r k : ℕ) → 0 < k → share_start 0 r k ≡ 0
 starts-first r k some =
     let none : 0 * r ≡ k * 0 = omega arith in
     ap (λ n. n / k) none ∙ mul-div_cancel_left 0 some

@@ -3,6 +3,7 @@ pub mod Between
 pub mod Claimed
 pub mod Distance
 pub mod Laws
+pub mod Owned
 pub mod Ring
 pub mod Share
 pub mod ShortestPath

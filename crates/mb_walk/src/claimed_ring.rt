@@ -26,10 +26,12 @@ ghost use Rattle.mb_tables.specs.Step.{IsNear};
 ghost use Rattle.mb_walk.specs.Claimed.{IsKeyOf};
 ghost use Rattle.mb_walk.specs.Walk.{most_tables};
 ghost use Rattle.mb_walk.specs.loops.Keyed.{AreFound, IsKeyFault};
-ghost use Rattle.mb_walk.specs.loops.Worked.{AreDeltas, HasKeyedSteps};
+ghost use Rattle.mb_walk.specs.loops.Needs.{AreSteps};
+ghost use Rattle.mb_walk.specs.loops.Worked.{HasKeyedSteps};
 
 use crate::fault::WalkFault;
 use crate::rounds::round;
+use crate::step_list::StepList;
 use mb_claims::{MOST_WORDS, Root, Shards};
 use mb_matrix::Keys;
 use mb_outside::Gate;
@@ -49,7 +51,7 @@ fn try_ring<R: Threads + Sync, G: Gate + Sync>(
     root: &mut Root,
     keys: &Keys,
     moves: &Moves,
-    deltas: &[u64],
+    steps: &StepList,
     ring: &[Table],
     earlier: u64,
     room: usize,
@@ -60,7 +62,7 @@ fn try_ring<R: Threads + Sync, G: Gate + Sync>(
 ) -> Result<Option<u64>, WalkFault>
     requires root_ours { IsRootOf shards.now root.old }
     requires none_open { root.old.knows.opened ≡ [] }
-    requires deltas { AreDeltas keys.now moves.now.rows deltas.now }
+    requires steps { AreSteps keys.now moves.now.width moves.now.rows steps.now }
     requires keyed { (u : List ℕ) → In u ring.now →
         HasKeyedSteps keys.now moves.now.width moves.now.rows u }
     requires some { 1 ≤ workers }
@@ -89,7 +91,7 @@ fn try_ring<R: Threads + Sync, G: Gate + Sync>(
         IsKeyFault (IsKeyOf keys.now (IsNear moves.now.rows ring.now)) known room limit fault) }
 {
     let left = round(
-        rt, alloc, shards, root, keys, moves, deltas, ring, earlier, room, workers, gate, found,
+        rt, alloc, shards, root, keys, moves, steps, ring, earlier, room, workers, gate, found,
     )?;
     if left.is_short {
         return Err(WalkFault::OutOfMemory);
@@ -136,19 +138,21 @@ fn grow_full(
 }
 
 /// The shards that are to grow before a ring is expanded, one bit each, where so many keys are
-/// stored: those with less than four words a key, as long as a shard may grow.
+/// stored: those with less than two words a key, as long as a shard may grow. A table of words takes
+/// its memory three times while it is made, the most that a walk takes beside its tables, so a walk
+/// of up to a million tables should need none but the first.
 fn tight_shards(shards: &Shards, stored: u64) -> u64 {
     let mut tight = 0;
     for shard in 0..shards.len() {
         let words = u64::from(shards.words(shard)) * u64::from(shards.len());
-        if words < stored.saturating_mul(4) {
+        if words < stored.saturating_mul(2) {
             tight |= 1 << shard;
         }
     }
     tight
 }
 
-/// Shards grow until there are four words for each of so many keys, as long as they may.
+/// Shards grow until there are two words for each of so many keys, as long as they may.
 fn make_room(
     alloc: Global,
     shards: Shards,
@@ -186,7 +190,7 @@ pub fn claim_ring<R: Threads + Sync, G: Gate + Sync>(
     root: &mut Root,
     keys: &Keys,
     moves: &Moves,
-    deltas: &[u64],
+    steps: &StepList,
     ring: &[Table],
     earlier: u64,
     room: usize,
@@ -196,7 +200,7 @@ pub fn claim_ring<R: Threads + Sync, G: Gate + Sync>(
 ) -> (Shards, Result<Vec<u64>, WalkFault>)
     requires root_ours { IsRootOf shards root.old }
     requires none_open { root.old.knows.opened ≡ [] }
-    requires deltas { AreDeltas keys.now moves.now.rows deltas.now }
+    requires steps { AreSteps keys.now moves.now.width moves.now.rows steps.now }
     requires keyed { (u : List ℕ) → In u ring.now →
         HasKeyedSteps keys.now moves.now.width moves.now.rows u }
     requires some { 1 ≤ workers }
@@ -229,7 +233,7 @@ pub fn claim_ring<R: Threads + Sync, G: Gate + Sync>(
     let mut found = Vec::new(alloc);
     for _ in 0..MOST_ROUNDS {
         match try_ring(
-            rt, alloc, &shards, root, keys, moves, deltas, ring, earlier, room, limit, workers,
+            rt, alloc, &shards, root, keys, moves, steps, ring, earlier, room, limit, workers,
             gate, &mut found,
         ) {
             Err(fault) => return (shards, Err(fault)),

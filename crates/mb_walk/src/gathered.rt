@@ -60,6 +60,7 @@ pub fn gather_all(
     while let Some(worker) = workers.pop() {
         let Worker {
             pass,
+            cache: _,
             found: keys,
             is_left,
             is_short,

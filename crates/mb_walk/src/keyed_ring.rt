@@ -25,10 +25,13 @@ ghost use Rattle.mb_tables.specs.Step.{IsNear};
 ghost use Rattle.mb_walk.specs.Claimed.{IsKeyOf};
 ghost use Rattle.mb_walk.specs.Walk.{most_tables};
 ghost use Rattle.mb_walk.specs.loops.Keyed.{FindsKeyed, IsKeyFault, IsOfFiber};
-ghost use Rattle.mb_walk.specs.loops.Worked.{AreDeltas, HasKeyedSteps};
+ghost use Rattle.mb_walk.specs.loops.Needs.{AreSteps};
+ghost use Rattle.mb_walk.specs.loops.Worked.{HasKeyedSteps};
 
 use crate::claimed_ring::claim_ring;
 use crate::fault::WalkFault;
+use crate::ring_parts::by_parts;
+use crate::step_list::StepList;
 use mb_claims::{Root, Shards};
 use mb_matrix::{Keys, Matrix, Peel};
 use mb_outside::Gate;
@@ -36,39 +39,17 @@ use mb_tables::{Moves, OutOfMemory, Table};
 use std::alloc::Global;
 use std::thread::Threads;
 
-/// The tables of the fiber with these keys, in the order of the keys.
-fn read_tables(
+/// The tables of the fiber with these keys, in ascending order, by so many workers, or fewer where
+/// there are few. Each sorts a part, and the parts are merged.
+fn ring_of_keys<R: Threads + Sync>(
+    rt: &R,
     alloc: Global,
     matrix: &Matrix,
     peel: &Peel,
     margins: &[u64],
     keys: &Keys,
     found: &[u64],
-) -> Result<Vec<Table>, OutOfMemory>
-    requires peel { peel.now ≡ peel_of matrix.now }
-    requires margins { length margins.now ≡ matrix.now.rows }
-    requires keys { keys.now ≡ digits_of matrix.now margins.now }
-    requires there { (key : ℕ) → In key found.now →
-        IsKeyOf keys.now (IsOfFiber matrix.now margins.now) key }
-    ensures keys { IfOk result (λ tables. map (key_of keys.now) tables.items ≡ found.now) }
-    ensures fiber { IfOk result (λ tables. (v : List ℕ) → In v tables.items →
-        IsOfFiber matrix.now margins.now v) }
-{
-    let mut tables = Vec::with_capacity(alloc, found.len())?;
-    for key in found {
-        tables.push(keys.table(alloc, matrix, peel, margins, *key)?)?;
-    }
-    Ok(tables)
-}
-
-/// The tables of the fiber with these keys, in ascending order.
-fn ring_of_keys(
-    alloc: Global,
-    matrix: &Matrix,
-    peel: &Peel,
-    margins: &[u64],
-    keys: &Keys,
-    found: &[u64],
+    workers: u32,
 ) -> Result<Vec<Table>, OutOfMemory>
     requires peel { peel.now ≡ peel_of matrix.now }
     requires margins { length margins.now ≡ matrix.now.rows }
@@ -76,6 +57,9 @@ fn ring_of_keys(
     requires there { (key : ℕ) → In key found.now →
         IsKeyOf keys.now (IsOfFiber matrix.now margins.now) key }
     requires once { AreDistinct found.now }
+    requires some { 1 ≤ workers }
+    requires few { workers ≤ 64 }
+    requires small { length found.now < 2 ^ 32 }
     ensures keys { IfOk result (λ tables. (key : ℕ) →
         In key found.now ↔ IsKeyOf keys.now (λ v. In v tables.items) key) }
     ensures fiber { IfOk result (λ tables. (v : List ℕ) → In v tables.items →
@@ -83,8 +67,9 @@ fn ring_of_keys(
     ensures ascends { IfOk result (λ tables. Ascends tables.items) }
     ensures count { IfOk result (λ tables. length tables.items ≡ length found.now) }
 {
-    let mut tables = read_tables(alloc, matrix, peel, margins, keys, found)?;
-    tables.sort_unstable();
+    let parts = (workers as usize).min(found.len() / 256 + 1);
+    let mut tables = by_parts(rt, alloc, matrix, peel, margins, keys, found, parts)?;
+    tables.sort()?;
     Ok(tables)
 }
 
@@ -100,7 +85,7 @@ pub fn next_keyed_ring<R: Threads + Sync, G: Gate + Sync>(
     margins: &[u64],
     keys: &Keys,
     moves: &Moves,
-    deltas: &[u64],
+    steps: &StepList,
     ring: &[Table],
     earlier: u64,
     room: usize,
@@ -113,7 +98,7 @@ pub fn next_keyed_ring<R: Threads + Sync, G: Gate + Sync>(
     requires peel { peel.now ≡ peel_of matrix.now }
     requires margins { length margins.now ≡ matrix.now.rows }
     requires keys { keys.now ≡ digits_of matrix.now margins.now }
-    requires deltas { AreDeltas keys.now moves.now.rows deltas.now }
+    requires steps { AreSteps keys.now moves.now.width moves.now.rows steps.now }
     requires keyed { (u : List ℕ) → In u ring.now →
         HasKeyedSteps keys.now moves.now.width moves.now.rows u }
     requires fiber { (v : List ℕ) → IsNear moves.now.rows ring.now v →
@@ -123,6 +108,7 @@ pub fn next_keyed_ring<R: Threads + Sync, G: Gate + Sync>(
     requires small_ring { length ring.now < 2 ^ 32 }
     requires items { earlier < 2 ^ 32 }
     requires small { limit ≤ most_tables }
+    requires small_room { room ≤ limit }
     ensures ours { IsRootOf result.0 root.new }
     ensures none_open { root.new.knows.opened ≡ [] }
     ensures near { (key : ℕ) → In key root.new.knows.gathered →
@@ -137,12 +123,21 @@ pub fn next_keyed_ring<R: Threads + Sync, G: Gate + Sync>(
 {
     let _cells = matrix.cols();
     let (shards, found) = claim_ring(
-        rt, alloc, shards, root, keys, moves, deltas, ring, earlier, room, limit, workers, gate,
+        rt, alloc, shards, root, keys, moves, steps, ring, earlier, room, limit, workers, gate,
     );
     match found {
         Err(fault) => (shards, Err(fault)),
         Ok(found) => {
-            match ring_of_keys(alloc, matrix, peel, margins, keys, found.as_slice()) {
+            match ring_of_keys(
+                rt,
+                alloc,
+                matrix,
+                peel,
+                margins,
+                keys,
+                found.as_slice(),
+                workers,
+            ) {
                 Err(_) => (shards, Err(WalkFault::OutOfMemory)),
                 Ok(next) => (shards, Ok(next)),
             }

@@ -33,11 +33,12 @@ ghost use Rattle.mb_walk.specs.Claimed.{AreKeysOf, IsKeyOf};
 ghost use Rattle.mb_walk.specs.Ring.{reached, tables_of};
 ghost use Rattle.mb_walk.specs.Walk.{most_tables, walk_cause, walk_of};
 ghost use Rattle.mb_walk.specs.loops.RingList.{listed};
-ghost use Rattle.mb_walk.specs.loops.Worked.{AreDeltas};
+ghost use Rattle.mb_walk.specs.loops.Needs.{AreSteps};
 
 use crate::fault::WalkFault;
 use crate::keyed_ring::next_keyed_ring;
 use crate::rings::Rings;
+use crate::step_list::{StepList, steps_of};
 use mb_claims::{Root, Shards};
 use mb_matrix::{Keys, Matrix, Peel};
 use mb_outside::Gate;
@@ -45,26 +46,14 @@ use mb_tables::{Moves, OutOfMemory, Table};
 use std::alloc::Global;
 use std::thread::Threads;
 
-/// What a walk by keys goes by: the peel, the margins of the start, what each move adds to a key,
-/// and ring 0.
+/// What a walk by keys goes by: the peel, the margins of the start, the steps of the moves, and
+/// ring 0.
 #[derive(Drop)]
 struct Plan {
     peel: Peel,
     margins: Vec<u64>,
-    deltas: Vec<u64>,
+    steps: StepList,
     ring: Vec<Table>,
-}
-
-/// What each move adds to a key.
-fn deltas_of(alloc: Global, keys: &Keys, moves: &Moves) -> Result<Vec<u64>, OutOfMemory>
-    requires cells { All (λ d. d.cell < moves.now.width) keys.now }
-    ensures { IfOk result (λ deltas. AreDeltas keys.now moves.now.rows deltas.items) }
-{
-    let mut deltas = Vec::with_capacity(alloc, moves.len() as usize)?;
-    for z in moves.as_slice() {
-        deltas.push(keys.delta(z))?;
-    }
-    Ok(deltas)
 }
 
 /// What the walk goes by.
@@ -82,20 +71,20 @@ fn plan_of(
     ensures margins { IfOk result (λ plan.
         plan.margins.items ≡ margins_of matrix.now start.now) }
     ensures rows { IfOk result (λ plan. length plan.margins.items ≡ matrix.now.rows) }
-    ensures deltas { IfOk result (λ plan.
-        AreDeltas keys.now moves.now.rows plan.deltas.items) }
+    ensures steps { IfOk result (λ plan.
+        AreSteps keys.now moves.now.width moves.now.rows plan.steps) }
     ensures ring { IfOk result (λ plan. plan.ring.items ≡ start.now ∷ []) }
 {
     let _cells = matrix.cols();
     let peel = Peel::of(alloc, matrix)?;
     let margins = matrix.margins(alloc, start)?;
-    let deltas = deltas_of(alloc, keys, moves)?;
+    let steps = steps_of(alloc, keys, moves)?;
     let mut ring = Vec::new(alloc);
     ring.push(start.try_copy()?)?;
     Ok(Plan {
         peel,
         margins,
-        deltas,
+        steps,
         ring,
     })
 }
@@ -137,7 +126,7 @@ fn walk_rings<R: Threads + Sync, G: Gate + Sync>(
     margins: &[u64],
     keys: &Keys,
     moves: &Moves,
-    deltas: &[u64],
+    steps: &StepList,
     start: &Table,
     ring: Vec<Table>,
     limit: u32,
@@ -156,7 +145,7 @@ fn walk_rings<R: Threads + Sync, G: Gate + Sync>(
     requires margins { margins.now ≡ margins_of matrix.now start.now }
     requires rows { length margins.now ≡ matrix.now.rows }
     requires keys { keys.now ≡ digits_of matrix.now (margins_of matrix.now start.now) }
-    requires deltas { AreDeltas keys.now moves.now.rows deltas.now }
+    requires steps { AreSteps keys.now moves.now.width moves.now.rows steps.now }
     requires ring { ring.items ≡ start.now ∷ [] }
     requires root_ours { IsRootOf shards root.old }
     requires none_open { root.old.knows.opened ≡ [] }
@@ -189,7 +178,7 @@ fn walk_rings<R: Threads + Sync, G: Gate + Sync>(
             margins,
             keys,
             moves,
-            deltas,
+            steps,
             ring.as_slice(),
             earlier as u64,
             room,
@@ -272,7 +261,7 @@ pub fn walk_on<R: Threads + Sync, G: Gate + Sync>(
     let Plan {
         peel,
         margins,
-        deltas,
+        steps,
         ring,
     } = plan;
     let (shards, rings) = walk_rings(
@@ -285,7 +274,7 @@ pub fn walk_on<R: Threads + Sync, G: Gate + Sync>(
         margins.as_slice(),
         keys,
         moves,
-        deltas.as_slice(),
+        &steps,
         start,
         ring,
         limit,

@@ -4,20 +4,23 @@ ghost use Rattle.std.specs.Prelude.{◌≡◌, ◌≤◌, All, IfOk, OnErr, [], 
 ghost use Rattle.mb_claims.specs.ClaimStep.{begins};
 ghost use Rattle.mb_claims.specs.Claims.{IsRootOf};
 ghost use Rattle.mb_tables.specs.Lists.{In};
-ghost use Rattle.mb_walk.specs.loops.Worked.{IsIdle, IsWorkerOf, numbers};
+ghost use Rattle.mb_walk.specs.loops.Worked.{AreCached, IsIdle, IsWorkerOf, numbers};
 
+use crate::cache::cache_for;
 use crate::worker::Worker;
 use mb_claims::{Pass, Root, Shards};
 use mb_tables::OutOfMemory;
 use std::alloc::Global;
 
-/// A worker with this pass, that has claimed nothing.
-fn worker_of(alloc: Global, pass: Pass) -> Worker
+/// A worker with this pass, that has claimed nothing, for a ring of so many tables.
+fn worker_of(alloc: Global, pass: Pass, tables: usize) -> Worker
     ensures pass { result.pass ≡ pass }
+    ensures cached { AreCached result.pass.knows.notes result.cache.items }
     ensures found { result.found.items ≡ [] }
 {
     Worker {
         pass,
+        cache: cache_for(alloc, tables),
         found: Vec::new(alloc),
         is_left: false,
         is_short: false,
@@ -25,12 +28,14 @@ fn worker_of(alloc: Global, pass: Pass) -> Worker
     }
 }
 
-/// So many workers, or fewer where passes are refused, but one at least.
+/// So many workers for a ring of so many tables, or fewer where passes are refused, but one at
+/// least.
 pub fn open(
     alloc: Global,
     shards: &Shards,
     root: &mut Root,
     count: u32,
+    tables: usize,
 ) -> Result<Vec<Worker>, OutOfMemory>
     requires root_ours { IsRootOf shards.now root.old }
     requires none_open { root.old.knows.opened ≡ [] }
@@ -46,7 +51,7 @@ pub fn open(
     let mut workers = Vec::with_capacity(alloc, count as usize)?;
     for _ in 0..count {
         if let Ok(pass) = shards.split(root) {
-            workers.push_reserved(worker_of(alloc, pass));
+            workers.push_reserved(worker_of(alloc, pass, tables));
         }
     }
     if workers.is_empty() {

@@ -25,9 +25,9 @@ ghost use Rattle.mb_claims.specs.Closed.{IsClosed};
 ghost use Rattle.mb_tables.specs.Lists.{In};
 ghost use Rattle.mb_tables.specs.Step.{IsNear};
 ghost use Rattle.mb_walk.specs.Claimed.{IsKeyOf};
+ghost use Rattle.mb_walk.specs.loops.Needs.{AreSteps};
 ghost use Rattle.mb_walk.specs.loops.Rounds.{AreWorked, FallsTo, IsListed, IsNearBefore, IsNearShare, IsRound};
 ghost use Rattle.mb_walk.specs.loops.Worked.{
-  AreDeltas,
   Claims,
   HasKeyedSteps,
   IsIdle,
@@ -41,6 +41,7 @@ ghost use Rattle.mb_walk.specs.declared.worker.Worker.{Worker};
 use crate::gathered::{Left, gather_all};
 use crate::opened::open;
 use crate::shares::{expand_share, share_of};
+use crate::step_list::StepList;
 use crate::worker::Worker;
 use mb_claims::{Root, Shards};
 use mb_matrix::Keys;
@@ -64,7 +65,7 @@ fn try_share<G: Gate>(
     shards: &Shards,
     keys: &Keys,
     moves: &Moves,
-    deltas: &[u64],
+    steps: &StepList,
     ring: &[Table],
     earlier: u64,
     room: usize,
@@ -76,7 +77,7 @@ fn try_share<G: Gate>(
     worker: &mut Worker,
 )
     requires ours { IsWorkerOf shards.now worker.old }
-    requires deltas { AreDeltas keys.now moves.now.rows deltas.now }
+    requires steps { AreSteps keys.now moves.now.width moves.now.rows steps.now }
     requires keyed { (u : List ℕ) → In u ring.now →
         HasKeyedSteps keys.now moves.now.width moves.now.rows u }
     requires there { share < count }
@@ -93,7 +94,7 @@ fn try_share<G: Gate>(
         let first = earlier + from as u64;
         let number = share as u32;
         expand_share(
-            shards, keys, moves, deltas, tables, number, first, room, gate, worker,
+            shards, keys, moves, steps, tables, number, first, room, gate, worker,
         );
     }
 }
@@ -103,7 +104,7 @@ fn work<G: Gate>(
     shards: &Shards,
     keys: &Keys,
     moves: &Moves,
-    deltas: &[u64],
+    steps: &StepList,
     ring: &[Table],
     earlier: u64,
     room: usize,
@@ -114,7 +115,7 @@ fn work<G: Gate>(
     worker: &mut Worker,
 )
     requires ours { IsWorkerOf shards.now worker.old }
-    requires deltas { AreDeltas keys.now moves.now.rows deltas.now }
+    requires steps { AreSteps keys.now moves.now.width moves.now.rows steps.now }
     requires keyed { (u : List ℕ) → In u ring.now →
         HasKeyedSteps keys.now moves.now.width moves.now.rows u }
     requires few { count ≤ 64 }
@@ -127,7 +128,7 @@ fn work<G: Gate>(
 {
     for share in 0..count {
         try_share(
-            shards, keys, moves, deltas, ring, earlier, room, count, gate, passes, number, share,
+            shards, keys, moves, steps, ring, earlier, room, count, gate, passes, number, share,
             worker,
         );
     }
@@ -139,7 +140,7 @@ fn lend<R: Threads + Sync, G: Gate + Sync>(
     shards: &Shards,
     keys: &Keys,
     moves: &Moves,
-    deltas: &[u64],
+    steps: &StepList,
     ring: &[Table],
     earlier: u64,
     room: usize,
@@ -149,7 +150,7 @@ fn lend<R: Threads + Sync, G: Gate + Sync>(
 )
     requires ours { All (IsWorkerOf shards.now) workers.old }
     requires some { 1 ≤ length workers.old }
-    requires deltas { AreDeltas keys.now moves.now.rows deltas.now }
+    requires steps { AreSteps keys.now moves.now.width moves.now.rows steps.now }
     requires keyed { (u : List ℕ) → In u ring.now →
         HasKeyedSteps keys.now moves.now.width moves.now.rows u }
     requires few { count ≤ 64 }
@@ -168,7 +169,7 @@ fn lend<R: Threads + Sync, G: Gate + Sync>(
         passes,
         &|number, worker| {
             work(
-                shards, keys, moves, deltas, ring, earlier, room, count, gate, passes, number,
+                shards, keys, moves, steps, ring, earlier, room, count, gate, passes, number,
                 worker,
             )
         },
@@ -181,7 +182,7 @@ fn work_all<R: Threads + Sync, G: Gate + Sync>(
     shards: &Shards,
     keys: &Keys,
     moves: &Moves,
-    deltas: &[u64],
+    steps: &StepList,
     ring: &[Table],
     earlier: u64,
     room: usize,
@@ -192,7 +193,7 @@ fn work_all<R: Threads + Sync, G: Gate + Sync>(
     requires ours { All (IsWorkerOf shards.now) workers.old }
     requires idle { All IsIdle workers.old }
     requires some { 1 ≤ length workers.old }
-    requires deltas { AreDeltas keys.now moves.now.rows deltas.now }
+    requires steps { AreSteps keys.now moves.now.width moves.now.rows steps.now }
     requires keyed { (u : List ℕ) → In u ring.now →
         HasKeyedSteps keys.now moves.now.width moves.now.rows u }
     requires shares { 1 ≤ count }
@@ -205,7 +206,7 @@ fn work_all<R: Threads + Sync, G: Gate + Sync>(
     ensures some { 1 ≤ length workers.new }
 {
     lend(
-        rt, shards, keys, moves, deltas, ring, earlier, room, count, gate, workers,
+        rt, shards, keys, moves, steps, ring, earlier, room, count, gate, workers,
     );
 }
 
@@ -219,7 +220,7 @@ pub fn round<R: Threads + Sync, G: Gate + Sync>(
     root: &mut Root,
     keys: &Keys,
     moves: &Moves,
-    deltas: &[u64],
+    steps: &StepList,
     ring: &[Table],
     earlier: u64,
     room: usize,
@@ -229,7 +230,7 @@ pub fn round<R: Threads + Sync, G: Gate + Sync>(
 ) -> Result<Left, OutOfMemory>
     requires root_ours { IsRootOf shards.now root.old }
     requires none_open { root.old.knows.opened ≡ [] }
-    requires deltas { AreDeltas keys.now moves.now.rows deltas.now }
+    requires steps { AreSteps keys.now moves.now.width moves.now.rows steps.now }
     requires keyed { (u : List ℕ) → In u ring.now →
         HasKeyedSteps keys.now moves.now.width moves.now.rows u }
     requires shares { 1 ≤ count }
@@ -246,11 +247,12 @@ pub fn round<R: Threads + Sync, G: Gate + Sync>(
     ensures kept { OnErr result (root.new ≡ root.old) }
     ensures same { OnErr result (found.new.items ≡ found.old.items) }
 {
-    let mut workers = open(alloc, shards, root, count.min(ring.len() as u32).max(1))?;
+    let passes = count.min(ring.len() as u32).max(1);
+    let mut workers = open(alloc, shards, root, passes, ring.len())?;
     let count = count as usize;
     let list = workers.as_mut_slice();
     work_all(
-        rt, shards, keys, moves, deltas, ring, earlier, room, count, gate, list,
+        rt, shards, keys, moves, steps, ring, earlier, room, count, gate, list,
     );
     Ok(gather_all(shards, root, workers, found))
 }

@@ -5,9 +5,11 @@ ghost use Rattle.mb_tables.specs.Lists.{In};
 ghost use Rattle.mb_tables.specs.Step.{IsNear, OneApart};
 ghost use Rattle.mb_walk.specs.Claimed.{IsKeyOf};
 ghost use Rattle.mb_walk.specs.Share.{share_of, share_start};
-ghost use Rattle.mb_walk.specs.loops.Worked.{AreDeltas, Claims, HasKeyedSteps, IsWorkerOf};
+ghost use Rattle.mb_walk.specs.loops.Needs.{AreSteps};
+ghost use Rattle.mb_walk.specs.loops.Worked.{Claims, HasKeyedSteps, IsWorkerOf};
 
 use crate::keyed_steps::claim_steps;
+use crate::step_list::StepList;
 use crate::worker::Worker;
 use mb_claims::Shards;
 use mb_matrix::Keys;
@@ -16,7 +18,7 @@ use mb_tables::{Moves, Table};
 
 /// The place where the share of a worker begins, where so many tables are cut among so many
 /// workers.
-fn share_start(worker: usize, tables: usize, workers: usize) -> usize
+pub fn share_start(worker: usize, tables: usize, workers: usize) -> usize
     requires there { worker ≤ workers }
     requires some { 1 ≤ workers }
     requires few { workers ≤ 64 }
@@ -47,7 +49,7 @@ fn expand_table<G: Gate>(
     shards: &Shards,
     keys: &Keys,
     moves: &Moves,
-    deltas: &[u64],
+    steps: &StepList,
     table: &Table,
     number: u32,
     item: u64,
@@ -56,7 +58,7 @@ fn expand_table<G: Gate>(
     worker: &mut Worker,
 )
     requires ours { IsWorkerOf shards.now worker.old }
-    requires deltas { AreDeltas keys.now moves.now.rows deltas.now }
+    requires steps { AreSteps keys.now moves.now.width moves.now.rows steps.now }
     requires keyed { HasKeyedSteps keys.now moves.now.width moves.now.rows table.now }
     ensures ours { IsWorkerOf shards.now worker.new }
     ensures claimed { Claims (IsKeyOf keys.now (OneApart moves.now.rows table.now))
@@ -67,13 +69,8 @@ fn expand_table<G: Gate>(
         return;
     }
     gate.pass(number, item);
-    match table.try_copy() {
-        Ok(mut scratch) => claim_steps(shards, keys, moves, deltas, &mut scratch, worker),
-        Err(_) => {
-            worker.is_left = true;
-            worker.is_short = true;
-        }
-    }
+    let key = keys.key(table);
+    claim_steps(shards, keys, moves, steps, table.as_slice(), key, worker);
 }
 
 /// Expands the tables of a share: the worker passes the gate before each, and claims the keys of
@@ -82,7 +79,7 @@ pub fn expand_share<G: Gate>(
     shards: &Shards,
     keys: &Keys,
     moves: &Moves,
-    deltas: &[u64],
+    steps: &StepList,
     share: &[Table],
     number: u32,
     first: u64,
@@ -91,7 +88,7 @@ pub fn expand_share<G: Gate>(
     worker: &mut Worker,
 )
     requires ours { IsWorkerOf shards.now worker.old }
-    requires deltas { AreDeltas keys.now moves.now.rows deltas.now }
+    requires steps { AreSteps keys.now moves.now.width moves.now.rows steps.now }
     requires keyed { (u : List ℕ) → In u share.now →
         HasKeyedSteps keys.now moves.now.width moves.now.rows u }
     requires items { first + length share.now < 2 ^ 64 }
@@ -102,7 +99,7 @@ pub fn expand_share<G: Gate>(
     for (place, table) in share.iter().enumerate() {
         let item = first + place as u64;
         expand_table(
-            shards, keys, moves, deltas, table, number, item, room, gate, worker,
+            shards, keys, moves, steps, table, number, item, room, gate, worker,
         );
     }
 }

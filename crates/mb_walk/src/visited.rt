@@ -3,7 +3,7 @@
 ghost use Rattle.std.specs.Prelude.{◌≡◌, ◌↔◌, ◌∷◌, [], IsTrue, OnErr, OnOk, length};
 ghost use Rattle.std.specs.List.Sorted.{IsPermutation};
 ghost use Rattle.mb_tables.specs.Lists.{In};
-ghost use Rattle.mb_walk.specs.loops.Found.{AreDistinct};
+ghost use Rattle.mb_walk.specs.loops.Found.{AreDistinct, FindsMore};
 
 use mb_tables::{OutOfMemory, Table};
 use std::alloc::Global;
@@ -59,6 +59,30 @@ impl Visited {
         ensures kept { OnErr result (self.new ≡ self.old) }
     {
         self.tables.insert(table)?;
+        Ok(())
+    }
+
+    /// Adds the tables of another set that are new, and lists these alone.
+    pub fn take_new(&mut self, other: &Visited, next: &mut Vec<Table>) -> Result<(), OutOfMemory>
+        ensures { OnOk result (FindsMore (λ v. In v other.now)
+            self.old self.new next.old.items next.new.items) }
+    {
+        for table in other.tables.iter() {
+            self.take_one(table, next)?;
+        }
+        Ok(())
+    }
+
+    /// Adds a table where it is new, and lists it then.
+    fn take_one(&mut self, table: &Table, next: &mut Vec<Table>) -> Result<(), OutOfMemory>
+        ensures { OnOk result (FindsMore (λ v. v ≡ table.now)
+            self.old self.new next.old.items next.new.items) }
+    {
+        if self.contains(table) {
+            return Ok(());
+        }
+        self.insert(table.try_copy()?)?;
+        next.push(table.try_copy()?)?;
         Ok(())
     }
 }

@@ -12,28 +12,44 @@ ghost use Rattle.mb_walk.specs.Walked.{AreClaims};
 use crate::breadth_first::walk_alone;
 use crate::fault::WalkFault;
 use crate::keyed_walk::walk_on;
+use crate::owned_walk::walk_by_tables;
 use crate::rings::Rings;
 use mb_claims::Shards;
-use mb_matrix::{Keys, Matrix, Peel};
+use mb_matrix::{Digit, Keys, Matrix, Peel};
 use mb_outside::Gate;
 use mb_tables::{Moves, OutOfMemory, Table};
 use std::alloc::Global;
 use std::thread::Threads;
 
+/// How many keys these digits make, or the greatest number of 64 bits where there are more.
+fn key_total(digits: &[Digit]) -> u64 {
+    let mut total = 1u64;
+    for digit in digits {
+        total = total.saturating_mul(digit.bound.saturating_add(1));
+    }
+    total
+}
+
 /// The words of the one shard with which a walk begins: four for each table of the limit, but no
-/// more than 2,000,003.
+/// more than 2,000,003; and no more than there are keys, and one.
 ///
 /// The place of a key is what is left of it by the number of words. The least significant cells make
 /// dense runs of keys, which lie on each other where that number is close to a multiple of a place
-/// value, a power of 9 as it may be. So it is a prime where the limit is large, and odd else.
-fn first_words(limit: u32) -> u32
+/// value, a power of 9 as it may be. So it is a prime where the limit is large, and odd else. Where
+/// there are few keys, each is its own place.
+fn first_words(limit: u32, keys: u64) -> u32
     ensures some { 1 ≤ result }
     ensures most { result ≤ most_words }
 {
-    if limit < 500_000 {
+    let words = if limit < 500_000 {
         4 * limit + 1
     } else {
         2_000_003
+    };
+    if keys < u64::from(words) {
+        keys as u32 + 1
+    } else {
+        words
     }
 }
 
@@ -75,7 +91,8 @@ fn walk_by_keys<R: Threads + Sync, G: Gate + Sync>(
         (walk_of limit matrix.now moves.now.rows start.now) }
     ensures claims { IfOk result (AreClaims keys.now) }
 {
-    let (shards, mut root) = Shards::try_new(alloc, 1, first_words(limit))?;
+    let words = first_words(limit, key_total(keys.digits()));
+    let (shards, mut root) = Shards::try_new(alloc, 1, words)?;
     match walk_on(
         rt, alloc, matrix, moves, start, keys, shards, &mut root, limit, workers, gate,
     ) {
@@ -94,7 +111,8 @@ fn walk_by_keys<R: Threads + Sync, G: Gate + Sync>(
 /// that stand before this one in all rings. The rings are the same for any number of workers.
 ///
 /// Where the tables of the fiber have keys of 64 bits, the workers claim them (`walk_on`), and the
-/// rings have the root of these claims. Where they have none, worker 0 walks alone.
+/// rings have the root of these claims. Where they have none, one worker keeps the tables that were
+/// met; two or more deal the tables themselves into piles, and as many owners keep those.
 ///
 /// `TooLarge` comes exactly where more tables than the limit are reached.
 pub fn walk<R: Threads + Sync, G: Gate + Sync>(
@@ -121,7 +139,8 @@ pub fn walk<R: Threads + Sync, G: Gate + Sync>(
         (AreClaims (digits_of matrix.now (margins_of matrix.now start.now))) }
 {
     match keys_of(alloc, matrix, start)? {
-        None => walk_alone(alloc, matrix, moves, start, limit, gate),
+        None if workers == 1 => walk_alone(alloc, matrix, moves, start, limit, gate),
+        None => walk_by_tables(rt, alloc, matrix, moves, start, limit, workers, gate),
         Some(keys) => walk_by_keys(rt, alloc, matrix, moves, start, &keys, limit, workers, gate),
     }
 }

@@ -1,8 +1,8 @@
-mod Binomials
-mod ByFactorials
-mod CellFactors
-mod GroupTotals
-mod LongDivision
-mod Multinomials
-mod SummedTables
+pub mod Binomials
+pub mod ByFactorials
+pub mod CellFactors
+pub mod GroupTotals
+pub mod LongDivision
+pub mod Multinomials
+pub mod SummedTables
 pub mod TableOrders

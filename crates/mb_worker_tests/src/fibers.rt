@@ -1,6 +1,8 @@
 //! The rings of small fibers, by several numbers of workers.
 
-use crate::models::{certificate_of, have_sizes, matrix_of, rings_by, table_of};
+use crate::models::{
+    PAIR_RINGS, certificate_of, first_of, have_sizes, matrix_of, ones_of, rings_by, table_of,
+};
 use mb_certificate::Certificate;
 use mb_order::Order;
 use mb_outside::NoGate;
@@ -142,5 +144,20 @@ const FIBERS: [Fiber; 12] = [
 #[test]
 fn small_fibers(rt: HostRuntime) -> Result<(), Fail> {
     assert_eq!(rt; first_wrong(&rt, rt.alloc(), &FIBERS)?, None);
+    Ok(())
+}
+
+/// Whether 2 in the first of 42 cells has its rings.
+fn has_pairs<R: Threads + Sync>(rt: &R, alloc: Global) -> Result<bool, Fail> {
+    let matrix = ones_of(alloc, 42)?;
+    let certificate = certificate_of(alloc, &matrix, Order::Grevlex)?;
+    let start = first_of(alloc, 42, 2)?;
+    has_rings(rt, alloc, &certificate, &start, PAIR_RINGS)
+}
+
+// Worked, and counted by a plain search: no keys of 64 bits.
+#[test]
+fn pairs_of_cells(rt: HostRuntime) -> Result<(), Fail> {
+    assert!(rt; has_pairs(&rt, rt.alloc())?);
     Ok(())
 }

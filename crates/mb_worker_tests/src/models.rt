@@ -33,6 +33,30 @@ pub(crate) const DIAGONAL: &str = "3 0 0 0 0 3 0 0 0 0 3 0 0 0 0 3";
 /// How many tables stand in each ring of it.
 pub(crate) const DIAGONAL_RINGS: &str = "1 6 29 110 296 550 612 332 66 6";
 
+/// How many tables stand in each ring of 2 in the first of 42 cells, where only the total is kept and a
+/// move takes 1 from the last cell or adds it there: the pair of cells (first, first), then (first,
+/// last), then (last, last) and 40 with the first cell, 40 others with the last cell, and 820 pairs of
+/// the other cells. 903 tables have keys past 64 bits, 3 to the power of 41.
+pub(crate) const PAIR_RINGS: &str = "1 1 41 40 820";
+
+/// The design matrix of one row of ones, so many.
+pub(crate) fn ones_of(alloc: Global, cells: u32) -> Result<Matrix, Fail> {
+    let ones = vec![in alloc; 1i32; cells as usize]?;
+    match Matrix::try_new(alloc, 1, cells, ones.as_slice()) {
+        Ok(matrix) => Ok(matrix),
+        Err(_) => Err(Fail::from("no design matrix")),
+    }
+}
+
+/// A table of so many cells with so many in the first, and else 0.
+pub(crate) fn first_of(alloc: Global, cells: usize, total: u32) -> Result<Table, Fail> {
+    let mut counts = vec![in alloc; 0u32; cells]?;
+    if let Some(first) = counts.first_mut() {
+        *first = total;
+    }
+    Ok(Table::try_new(alloc, counts.as_slice())?)
+}
+
 /// The design matrix of a text.
 pub(crate) fn matrix_of(alloc: Global, text: &str) -> Result<Matrix, Fail> {
     let Ok(grid) = read_matrix(alloc, text.as_bytes()) else {

@@ -4,8 +4,8 @@ ghost use Rattle.std.specs.Prelude.{◌≡◌, IfOk};
 ghost use Rattle.mb_matrix.specs.Measure.{IsMeasureOf};
 
 use crate::models::{
-    DIAGONAL, DIAGONAL_RINGS, FOUR_BY_FOUR, certificate_of, counts_of, has_small_margins,
-    matrix_of, table_of,
+    DIAGONAL, DIAGONAL_RINGS, FOUR_BY_FOUR, certificate_of, counts_of, first_of, has_small_margins,
+    matrix_of, ones_of, table_of,
 };
 use mb_certificate::Certificate;
 use mb_desk::{Figures, numbers};
@@ -127,15 +127,6 @@ fn the_diagonal(rt: HostRuntime) -> Result<(), Fail> {
     Ok(())
 }
 
-/// 3 in the first of 64 cells, and else 0.
-fn three_at_first(alloc: Global) -> Result<Table, Fail> {
-    let mut counts = vec![in alloc; 0u32; 64]?;
-    if let Some(first) = counts.first_mut() {
-        *first = 3;
-    }
-    Ok(Table::try_new(alloc, counts.as_slice())?)
-}
-
 // Worked: there are C(66, 3) tables, which together weigh 64^3, and 64 of them weigh 1. Their keys
 // are past 64 bits, so none is claimed.
 #[test]
@@ -148,9 +139,8 @@ fn sixty_four_cells(rt: HostRuntime) -> Result<(), Fail> {
         whole: 262_144,
         is_claimed: false,
     };
-    let ones = vec![in alloc; 1i32; 64]?;
-    let matrix = Matrix::try_new(alloc, 1, 64, ones.as_slice())?;
-    let table = three_at_first(alloc)?;
+    let matrix = ones_of(alloc, 64)?;
+    let table = first_of(alloc, 64, 3)?;
     let other = first_other(rt, alloc, &matrix, Scale::All, &table, &wanted, &[7])?;
     assert_eq!(rt; other, None);
     Ok(())

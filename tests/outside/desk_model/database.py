@@ -26,9 +26,11 @@ def rows(folder):
 
 
 def sound_rows(base):
-    """The rows of a database that is sound and has the one table."""
+    """The rows of a database that is sound and has the one table, or none yet, and then no row."""
     assert base.execute("PRAGMA integrity_check").fetchall() == [("ok",)]
     texts = base.execute("SELECT sql FROM sqlite_schema WHERE sql IS NOT NULL").fetchall()
+    if not texts:
+        return {}
     assert [text.replace("IF NOT EXISTS ", "") for text, in texts] == [f"CREATE TABLE {TABLE}"], texts
     return {(kind, name): body for kind, name, body in base.execute("SELECT kind, name, body FROM records")}
 

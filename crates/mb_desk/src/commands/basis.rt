@@ -3,6 +3,8 @@ ghost use Rattle.std.specs.Prelude.{◌≡◌, IfOk};
 ghost use Rattle.mb_desk.specs.BasisCommand.{basis_plan, certificate_lines, completed_named, completion_lines};
 ghost use Rattle.mb_desk.specs.Decision.{DoesRows};
 ghost use Rattle.mb_desk.specs.Needs.{RowsAlone, Touches};
+ghost use Rattle.mb_desk.specs.SoundLaws.{CompletedIsSaid};
+ghost use Rattle.mb_outside.specs.Told.{WhereTold};
 ghost use Rattle.mb_registry.specs.Bodies.{basis_text};
 
 use crate::completing::{Completion, certify};
@@ -69,8 +71,11 @@ pub fn plan<'a, K: Keeper>(
         (K.faults keeper.old) (K.faults keeper.new)
         result (basis_plan words.now) }
     ensures touches { IfOk result (λ plan. Touches RowsAlone plan.change) }
+    ensures said { IfOk result (λ _. WhereTold (K.rows keeper.old) (K.rows keeper.new)
+        (λ rows _. CompletedIsSaid words.now rows)) }
 {
     let completion = complete_named(alloc, keeper, words)?;
+    let _parts = completion.certificate.matrix();
     let name = words.model.as_str();
     let body = basis_body(alloc, name, &completion.certificate)?;
     let lines = lines(alloc, &completion)?;

@@ -1,7 +1,7 @@
 //! `import NAME BASIS MOVES [--limit L]`.
-ghost use Rattle.std.specs.Prelude.{◌≡◌, ◌≤◌, false};
+ghost use Rattle.std.specs.Prelude.{◌≡◌, ◌≤◌, IfOk, false};
 ghost use Rattle.mb_certificate.specs.Valid.{IsValid};
-ghost use Rattle.mb_desk.specs.Decision.{Does, DoesFiles, DoesRows, Follows, blames, scene};
+ghost use Rattle.mb_desk.specs.Decision.{Does, DoesFiles, DoesRows, Follows, InWorld, blames, scene};
 ghost use Rattle.mb_desk.specs.ImportCommand.{
   beside_of,
   beside_stop,
@@ -12,6 +12,9 @@ ghost use Rattle.mb_desk.specs.ImportCommand.{
   imported,
   moves_file,
 };
+ghost use Rattle.mb_desk.specs.SoundLaws.{CanBeSaid, ImportedIsSaid};
+ghost use Rattle.mb_desk.specs.declared.requests.Request.TheVariants.{Import};
+ghost use Rattle.mb_outside.specs.Told.{WhereTold};
 ghost use Rattle.mb_walk.specs.Between.{most_between};
 
 use crate::commands::basis::{basis_body, certificate_lines};
@@ -131,8 +134,11 @@ fn add<'a, K: Keeper>(
     ensures does { DoesRows (K.rows keeper.old) (K.rows keeper.new)
         (K.faults keeper.old) (K.faults keeper.new)
         result (import_added words.now moves.now) }
+    ensures said { IfOk result (λ _. WhereTold (K.rows keeper.old) (K.rows keeper.new)
+        (λ rows _. ImportedIsSaid words.now moves.now rows)) }
 {
     let proved = import(alloc, keeper, words, moves)?;
+    let _parts = proved.1.matrix();
     keep_basis(alloc, keeper, &words.name, &proved)
 }
 
@@ -157,6 +163,10 @@ pub fn plan<'a, F: Files, K: Keeper>(
         (scene (F.held files.old) (F.faults files.old) (K.rows keeper.old) (K.faults keeper.old))
         (scene (F.held files.new) (F.faults files.new) (K.rows keeper.new) (K.faults keeper.new))
         result (import_plan words.now) }
+    ensures said { IfOk result (λ _. InWorld
+        (scene (F.held files.old) (F.faults files.old) (K.rows keeper.old) (K.faults keeper.old))
+        (scene (F.held files.new) (F.faults files.new) (K.rows keeper.new) (K.faults keeper.new))
+        (λ w _. CanBeSaid (Import words.now) w)) }
 {
     let moves = read_moves(alloc, files, &words.moves)?;
     add(alloc, keeper, words, &moves)

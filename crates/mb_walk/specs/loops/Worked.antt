@@ -1,10 +1,10 @@
 -- What workers do with the tables of a ring: each claims the keys of the tables one step away.
 use Rattle.std.specs.List.{flat_map}
-use Rattle.std.specs.Prelude.{List, Some, [], false, length, map, reverse, slice_get, ℕ, ℤ, ◌≡◌, ◌⊎◌}
+use Rattle.std.specs.Prelude.{List, [], false, length, map, reverse, ℕ, ℤ, ◌≡◌, ◌≢◌, ◌⊎◌}
 use Rattle.mb_claims.specs.Claims.{IsPassOf, ShardWords}
 use Rattle.mb_claims.specs.Notes.{IsNoted, Keeps}
 use Rattle.mb_claims.specs.declared.views.Note.{Note}
-use Rattle.mb_matrix.specs.Key.{IsDelta, Suits, key_of}
+use Rattle.mb_matrix.specs.Key.{Suits}
 use Rattle.mb_matrix.specs.declared.digit.Digit.{Digit}
 use Rattle.mb_tables.specs.Counts.{AreCounts}
 use Rattle.mb_tables.specs.Lists.{In}
@@ -23,13 +23,6 @@ pub record HasKeyedSteps (digits : List Digit) (width : ℕ) (moves : List (List
   pub suits : Suits digits u
   pub steps : (v : List ℕ) → OneApart moves u v → IsKeyed digits v
 
--- what each move adds to a key
-pub record AreDeltas (digits : List Digit) (moves : List (List ℤ)) (deltas : List ℕ)
-    : Type 0 where
-  pub count : length deltas ≡ length moves
-  pub each : (k : ℕ) (move : List ℤ) (delta : ℕ) → slice_get moves k ≡ Some move →
-      slice_get deltas k ≡ Some delta → IsDelta (key_of digits) digits move delta
-
 -- a worker claimed the sought keys: it won no others; each is noted unless something is left; and
 -- its list has the keys that it won, the last at the end, unless it is short of memory
 pub record Claims (IsSought : ℕ → Type 0) (before after : Worker) : Type 0 where
@@ -43,9 +36,14 @@ pub record Claims (IsSought : ℕ → Type 0) (before after : Worker) : Type 0 w
       × (reverse before.found.items ≡ before.pass.knows.won →
       reverse after.found.items ≡ after.pass.knows.won)
 
--- the worker's pass belongs to the shards
+-- each key of a cache is noted; 0 is none
+abbrev pub AreCached : List Note → List ℕ → Type 0
+AreCached notes cache = (key : ℕ) → In key cache → key ≢ 0 → IsNoted notes key
+
+-- the worker's pass belongs to the shards, and the keys of its cache are known to the pass
 abbrev pub IsWorkerOf : ShardWords → Worker → Type 0
-IsWorkerOf shards worker = IsPassOf shards worker.pass
+IsWorkerOf shards worker =
+    IsPassOf shards worker.pass × AreCached worker.pass.knows.notes worker.cache.items
 
 -- the worker has claimed nothing yet
 pub record IsIdle (worker : Worker) : Type 0 where

@@ -67,6 +67,11 @@ returns-in-Some-clause-each_done g c is_done =
     (done_holds _ _ _ _ _ c.work-ended.result c.put_reply.ensures.put.0 c.put_reply.result
     c.work-ended.ensures.each_done c.put_reply.ensures.put.1 c.put_reply.ensures.put.2 is_done)
 
+pub returns-in-Some-clause-sound : goal.returns-in-Some-clause-sound
+returns-in-Some-clause-sound g c =
+    where_some _ (request_of (texts c.args.words.now)) c.in-Some.request c.in-Some.ensures
+    c.work-ended.ensures.sound
+
 pub returns-in-Some-clause-words : goal.returns-in-Some-clause-words
 returns-in-Some-clause-words g c is_words =
     absurd (not_words _ _ (plan_of c.in-Some.request) _ _ _ _ c.put_reply.result

@@ -9,7 +9,7 @@ use Rattle.mb_walk.specs.declared.fault.WalkFault.{WalkFault}
 use Rattle.mb_walk.proofs.keyed_ring.next_keyed_ring.Goals as goal
 
 pub ring_of_keys-requires-clause-there : goal.ring_of_keys-requires-clause-there
-ring_of_keys-requires-clause-there g c key i =
+ring_of_keys-requires-clause-there g c κs within key i =
     let found : AreFound (IsKeyOf c.args.keys.now (IsNear c.args.moves.now.rows c.args.ring.now)) c.args.root.now.knows.gathered
     c.claim_ring-shards.new.root.knows.gathered c.in-Ok.found.items =
     subst (λ (r : Result (Vec ℕ Global) WalkFault). IfOk r (λ list. AreFound

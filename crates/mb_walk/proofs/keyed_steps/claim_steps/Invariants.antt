@@ -1,4 +1,3 @@
-use Rattle.std.proofs.Common.{◌≡◌}
 use Rattle.mb_walk.proofs.PlacesBelow.{SteppedBelow}
 use Rattle.mb_walk.specs.Claimed.{IsKeyOf}
 use Rattle.mb_walk.specs.loops.Worked.{Claims, IsWorkerOf}
@@ -7,6 +6,4 @@ use Rattle.mb_walk.proofs.keyed_steps.claim_steps.Given as goal
 abbrev pub invariant-loop-k : goal.invariant-loop-k
 invariant-loop-k l =
     IsWorkerOf l.shards l.worker
-    × (l.table ≡ l.initial.table)
-    × Claims (IsKeyOf l.keys (SteppedBelow l.z-items l.k l.initial.table)) l.initial.worker
-    l.worker
+    × Claims (IsKeyOf l.keys (SteppedBelow l.z-items l.k l.counts)) l.initial.worker l.worker

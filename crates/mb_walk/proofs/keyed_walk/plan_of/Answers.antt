@@ -4,8 +4,8 @@ use Rattle.mb_matrix.specs.Key.{Suits}
 use Rattle.mb_matrix.specs.declared.digit.Digit.{Digit}
 use Rattle.mb_walk.proofs.keyed_walk.plan_of.Goals as goal
 
-pub deltas_of-requires : goal.deltas_of-requires
-deltas_of-requires c = record {
+pub steps_of-requires : goal.steps_of-requires
+steps_of-requires c = record {
   cells = λ k d l.
       let s : Suits c.args.keys.now c.args.start.now =
       subst (λ (digits : List Digit). Suits digits c.args.start.now) (sym c.requires.keys)

@@ -14,9 +14,11 @@ loop-preserved c =
             c.loop.workers.items c.match-split.workers.items w.worker_of.result
             c.loop.invariant.1 w.in-Ok.ensures.opened
             (ap (λ p. p.knows) w.worker_of.ensures.pass ∙ w.in-Ok.ensures.pass)
-            w.worker_of.ensures.found
-            (subst (IsPassOf c.args.shards.now) (sym w.worker_of.ensures.pass)
-            w.in-Ok.ensures.pass_ours)
+            w.worker_of.ensures.found (
+              subst (IsPassOf c.args.shards.now) (sym w.worker_of.ensures.pass)
+                  w.in-Ok.ensures.pass_ours,
+              w.worker_of.ensures.cached,
+            )
             (ap (λ v. v.items) w.workers-is ∙ w.push_reserved.ensures.items),
         (let e = ap (λ v. length v.items) w.workers-is in
             let f = ap (λ (l : List Worker). length l) w.push_reserved.ensures.items in

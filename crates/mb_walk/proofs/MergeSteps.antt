@@ -1,0 +1,103 @@
+-- What an owner takes over, table by table and pile by pile.
+use Rattle.std.proofs.Common.{Bor, List, Some, [], ap, arith, false, inl, inr, length, map, refl, slice_get, subst, sym, ℕ, ◌++◌, ◌+◌, ◌<◌, ◌∙◌, ◌∷◌, ◌≡◌, ◌⊎◌, ⊎_elim}
+use Rattle.std.proofs.lemmas.Bool.Decides.{nat_tests}
+use Rattle.std.proofs.lemmas.List.{map-append}
+use Rattle.std.specs.Map.Iter.{deref}
+use Rattle.std.specs.Prelude.{nat_lt}
+use Rattle.mb_tables.proofs.ListLaws.{In-cases, In-left, In-right, place-within}
+use Rattle.mb_tables.specs.Lists.{In}
+use Rattle.mb_walk.proofs.PlacesBelow.{SomeBelow, below-cases, below-more, below-none}
+use Rattle.mb_walk.proofs.SearchSteps.{finds-none, finds-same, finds-then}
+use Rattle.mb_walk.specs.Ring.{Ring}
+use Rattle.mb_walk.specs.loops.Found.{FindsMore}
+use Rattle.mb_walk.specs.loops.Piles.{IsDealt, IsInPile}
+use Rattle.mb_walk.specs.declared.dealer.Dealer.{Dealer}
+
+-- before the first table
+pub taken-none : (before old : Ring) → FindsMore (λ v. In v []) before before old old
+unfolding In
+taken-none before old = finds-none (λ v. In v []) before old (λ v i fits. absurd i)
+
+-- a table more
+pub taken-more : (tables : List (Bor (List ℕ))) (table : Bor (List ℕ))
+    (before middle after old half new : Ring) →
+    FindsMore (λ v. In v (map deref tables)) before middle old half →
+    FindsMore (λ v. v ≡ table.now) middle after half new →
+    FindsMore (λ v. In v (map deref (tables ++ table ∷ []))) before after old new
+unfolding In
+taken-more tables table before middle after old half new f g =
+    let e : map deref (tables ++ table ∷ []) ≡ map deref tables ++ table.now ∷ [] =
+    map-append deref tables (table ∷ []) in
+    subst (λ list. FindsMore (λ v. In v list) before after old new) (sym e)
+    (finds-same (λ v. In v (map deref tables) ⊎ (v ≡ table.now))
+    (λ v. In v (map deref tables ++ table.now ∷ [])) before after old new
+    (λ v. ⊎_elim
+    (λ i. In-left v (map deref tables) (table.now ∷ []) i)
+    (λ s. In-right v (map deref tables) (table.now ∷ []) (inl s)))
+    (λ v i. elim (In-cases v (map deref tables) (table.now ∷ []) i) [
+      | inl j ↦ inl j
+      | inr j ↦ elim j [ inl s ↦ inr s | inr n ↦ absurd n ]
+    ])
+    (finds-then (λ v. In v (map deref tables)) (λ v. v ≡ table.now) before middle after old half
+    new f g))
+
+-- the piles of workers before a place
+abbrev pub InPilesBelow : List Dealer → ℕ → ℕ → List ℕ → Type 0
+InPilesBelow dealers i j v = SomeBelow dealers i (λ dealer. IsInPile j dealer v)
+
+-- before the first pile
+pub piled-none : (dealers : List Dealer) (j : ℕ) (before old : Ring) → old ≡ [] →
+    FindsMore (InPilesBelow dealers 0 j) before before [] old
+piled-none dealers j before old e =
+    subst (FindsMore (InPilesBelow dealers 0 j) before before []) (sym e)
+    (finds-none (InPilesBelow dealers 0 j) before []
+    (λ v h fits. absurd (below-none dealers (λ dealer. IsInPile j dealer v) h)))
+
+-- a pile more
+pub piled-more : (dealers : List Dealer) (i j : ℕ) (dealer : Dealer) →
+    slice_get dealers i ≡ Some dealer → (before middle after half new : Ring) →
+    FindsMore (InPilesBelow dealers i j) before middle [] half →
+    FindsMore (IsInPile j dealer) middle after half new →
+    FindsMore (InPilesBelow dealers (i + 1) j) before after [] new
+piled-more dealers i j dealer there before middle after half new f g =
+    finds-same (λ v. InPilesBelow dealers i j v ⊎ IsInPile j dealer v)
+    (InPilesBelow dealers (i + 1) j) before after [] new
+    (λ v k. below-more dealers i dealer (λ d. IsInPile j d v) there k)
+    (λ v k. below-cases dealers i dealer (λ d. IsInPile j d v) there k)
+    (finds-then (InPilesBelow dealers i j) (IsInPile j dealer) before middle after [] half new f g)
+
+-- all piles
+pub piled-all : (dealers : List Dealer) (i j : ℕ) (before after new : Ring) →
+    i ≡ length dealers → FindsMore (InPilesBelow dealers i j) before after [] new →
+    FindsMore (IsDealt dealers j) before after [] new
+piled-all dealers i j before after new e f =
+    finds-same (InPilesBelow dealers i j) (IsDealt dealers j) before after [] new
+    (λ v h. (h.place, h.element, h.is, h.holds))
+    (λ v h. record {
+      place = h.0;
+      below = subst (λ n. h.0 < n) (sym e) (place-within dealers h.0 h.1 h.2);
+      element = h.1;
+      is = h.2;
+      holds = h.3;
+    })
+    f
+
+-- a pile with these tables
+pub pile-is : (j : ℕ) (dealer : Dealer) (pile : Ring) (before after old new : Ring) →
+    slice_get dealer.piles.items j ≡ Some pile →
+    FindsMore (λ v. In v pile) before after old new →
+    FindsMore (IsInPile j dealer) before after old new
+pile-is j dealer pile before after old new e f =
+    finds-same (λ v. In v pile) (IsInPile j dealer) before after old new
+    (λ v i. (pile, e, i))
+    (λ v h. let same : h.0 ≡ pile = (let g = h.1 in cc) in subst (λ p. In v p) same h.2)
+    f
+
+-- there is no pile
+pub no-pile : (j n : ℕ) (dealer : Dealer) (before old : Ring) →
+    n ≡ length dealer.piles.items → false ≡ nat_lt j n →
+    FindsMore (IsInPile j dealer) before before old old
+no-pile j n dealer before old e f =
+    finds-none (IsInPile j dealer) before old
+    (λ v h fits. let l = place-within dealer.piles.items j h.0 h.1 in
+    absurd (grind (arith, nat_tests)))
