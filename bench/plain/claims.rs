@@ -1,10 +1,11 @@
 //! `claims THREADS KEYS` as a plain Rust program: the yardstick of bench/walk for claims alone.
 //!
 //! One table of atomic words, open addressing with linear probing: a load of each word, and a compare-and-exchange where it
-//! is 0. With THREADS 2, two threads claim the same keys at once; with another number, one claims them twice.
+//! is 0. THREADS threads, 1, 2 or 4, make four claims of each of KEYS keys together, all at once.
 use std::sync::atomic::{AtomicU64, Ordering};
 
 const WORDS: usize = 2_000_003;
+const CLAIMS: u64 = 4;
 
 fn is_new(words: &[AtomicU64], key: u64) -> bool {
     let mut at = (key % WORDS as u64) as usize;
@@ -30,13 +31,12 @@ fn main() {
     let numbers: Vec<u64> = std::env::args().skip(2).map(|word| word.parse().unwrap_or(0)).collect();
     let (threads, keys) = (numbers[0], numbers[1].min(1_000_000));
     let words: Vec<AtomicU64> = (0..WORDS).map(|_| AtomicU64::new(0)).collect();
-    let new: u64 = if threads == 2 {
-        std::thread::scope(|scope| {
-            let sides: Vec<_> = (0..2).map(|_| scope.spawn(|| claim_all(&words, keys))).collect();
-            sides.into_iter().map(|side| side.join().unwrap_or(0)).sum()
-        })
-    } else {
-        (0..2).map(|_| claim_all(&words, keys)).sum()
-    };
+    let sides = threads.clamp(1, CLAIMS);
+    let new: u64 = std::thread::scope(|scope| {
+        let sides: Vec<_> = (0..sides)
+            .map(|_| scope.spawn(|| (0..CLAIMS / sides).map(|_| claim_all(&words, keys)).sum::<u64>()))
+            .collect();
+        sides.into_iter().map(|side| side.join().unwrap_or(0)).sum()
+    });
     println!("new {new}");
 }

@@ -3,8 +3,10 @@
 //! A breadth-first walk from the table by the 36 basic moves of 4 x 4 independence, which are written down and not
 //! computed, with a hash set of whole tables. With `KEYS=1` in the environment the set holds keys of 64 bits instead: a
 //! sum over the cells, to which a move adds its own. Two tables of one key would be taken for one, which is not to be
-//! feared at this length. The weights are quotients of factorials.
+//! feared at this length. With `THREADS=N` so many threads share each ring and claim keys among atomic words. The weights
+//! are quotients of factorials.
 use std::collections::HashSet;
+use std::sync::atomic::{AtomicU64, Ordering};
 
 const SIZE: usize = 4;
 const CELLS: usize = SIZE * SIZE;
@@ -108,6 +110,63 @@ fn walk<V: Visited>(start: Table, seen: &mut V) -> Vec<Table> {
     reached
 }
 
+/// Keys that threads claim: one table of atomic words, open addressing with linear probing, a load before each exchange.
+struct Words(Vec<AtomicU64>);
+
+impl Words {
+    fn is_new(&self, key: u64) -> bool {
+        let mut at = (key % self.0.len() as u64) as usize;
+        loop {
+            match self.0[at].load(Ordering::Acquire) {
+                0 => match self.0[at].compare_exchange(0, key, Ordering::AcqRel, Ordering::Acquire) {
+                    Ok(_) => return true,
+                    Err(found) if found == key => return false,
+                    Err(_) => {}
+                },
+                found if found == key => return false,
+                _ => {}
+            }
+            at = if at + 1 == self.0.len() { 0 } else { at + 1 };
+        }
+    }
+}
+
+/// The new tables one step from a share of a ring.
+fn expanded(share: &[Table], steps: &[Step], words: &Words) -> Vec<Table> {
+    let mut next = Vec::new();
+    for table in share {
+        let key = key_of(table);
+        for step in steps {
+            if step.from.iter().all(|cell| table[*cell] > 0) && words.is_new(key.wrapping_add(step.key)) {
+                let mut new = *table;
+                step.from.iter().for_each(|cell| new[*cell] -= 1);
+                step.to.iter().for_each(|cell| new[*cell] += 1);
+                next.push(new);
+            }
+        }
+    }
+    next
+}
+
+/// All tables that the steps reach, ring after ring, each of which the threads share.
+fn walk_by_threads(start: Table, threads: usize) -> Vec<Table> {
+    let (steps, words) = (steps(), Words((0..2_000_003).map(|_| AtomicU64::new(0)).collect()));
+    words.is_new(key_of(&start));
+    let mut reached = vec![start];
+    let mut first = 0;
+    while first < reached.len() {
+        let ring = &reached[first..];
+        let next: Vec<Table> = std::thread::scope(|scope| {
+            let shares = ring.chunks(ring.len().div_ceil(threads));
+            let parts: Vec<_> = shares.map(|share| scope.spawn(|| expanded(share, &steps, &words))).collect();
+            parts.into_iter().flat_map(|part| part.join().unwrap()).collect()
+        });
+        first = reached.len();
+        reached.extend(next);
+    }
+    reached
+}
+
 /// The product over the rows of the multinomial coefficient of a row's counts.
 fn weight(factorials: &[u128], table: &Table) -> u128 {
     table
@@ -136,7 +195,10 @@ fn decimals(mut rest: u128, den: u128) -> String {
 fn main() {
     let seed = std::env::args().nth(2).map_or(0, |seed| seed.parse().unwrap());
     let table = table_of(seed);
-    let reached = if std::env::var("KEYS").is_ok() {
+    let threads = std::env::var("THREADS").ok().and_then(|threads| threads.parse().ok());
+    let reached = if let Some(threads) = threads {
+        walk_by_threads(table, threads)
+    } else if std::env::var("KEYS").is_ok() {
         walk(table, &mut Keys(HashSet::new()))
     } else {
         walk(table, &mut Tables(HashSet::new()))

@@ -84,13 +84,14 @@ impl Shards {
         ensures ends { result.start + result.words ≤ 2 ^ 28 }
     {
         let shards = self.sizes.len() as u64;
-        let shard = (key % shards) as usize;
+        let (shard, rest) = divided(key, shards);
+        let shard = shard as usize;
         let words = self.sizes[shard];
         Home {
             shard: shard as u32,
             start: self.starts[shard],
             words,
-            at: (key / shards % words as u64) as usize,
+            at: (rest % words as u64) as usize,
         }
     }
 
@@ -105,6 +106,21 @@ impl Shards {
         self.table
             .shared
             .compare_exchange::<Tries>(&mut pass.seat, place, 0, key)
+    }
+}
+
+/// The remainder and the quotient of a key by the number of shards. Where there is one shard, as in
+/// most walks, two divisions are spared.
+#[inline(always)]
+fn divided(key: u64, shards: u64) -> (u64, u64)
+    requires some { 1 ≤ shards }
+    ensures remainder { result.0 ≡ key % shards }
+    ensures quotient { result.1 ≡ key / shards }
+{
+    if shards == 1 {
+        (0, key)
+    } else {
+        (key % shards, key / shards)
     }
 }
 

@@ -37,8 +37,8 @@ use Rattle.mb_outside.specs.Rows.{Rows}
 use Rattle.mb_registry.specs.Looking.{basis_named, dataset_named, model_named}
 use Rattle.mb_registry.specs.declared.kinds.Kind.TheVariants.{Analysis, Basis}
 use Rattle.mb_reports.specs.Report.{report_text}
+use Rattle.mb_rings.specs.Ring.{Ring, rings_of}
 use Rattle.mb_tables.specs.Answers.{◌>>=◌}
-use Rattle.mb_walk.specs.Ring.{Ring, rings_of}
 use Rattle.mb_weights.specs.PValue.{Fraction, exact_p_value}
 use Rattle.mb_weights.specs.Weight.{weight_of}
 
@@ -183,14 +183,14 @@ same_report : (words : AnalyseWords) (records : Records) (numbers : Numbers) (re
     AreOf words.limit records.certificate records.model.measure (counts records.dataset.entries)
     numbers → records.certificate.matrix ≡ records.model.matrix →
     report_text (report_of words records numbers) ≡ report →
-    report ≡ report_text (tested_report words records.model_name records.dataset_name records.model
-    (counts records.dataset.entries)
+    report ≡ report_text (tested_report words.name words.basis records.model_name
+    records.dataset_name records.model (counts records.dataset.entries)
     (rings_of records.model.matrix records.certificate.moves (counts records.dataset.entries))
     (exact_p_value records.model.matrix records.model.measure (counts records.dataset.entries)))
 same_report words records numbers report are matrix text =
     sym text ∙ ap (λ (n : Numbers). report_text (report_of words records n)) (sym are.same)
-    ∙ ap (λ (m : Design). report_text (tested_report words records.model_name records.dataset_name
-    records.model (counts records.dataset.entries)
+    ∙ ap (λ (m : Design). report_text (tested_report words.name words.basis records.model_name
+    records.dataset_name records.model (counts records.dataset.entries)
     (rings_of m records.certificate.moves (counts records.dataset.entries))
     (exact_p_value m records.model.measure (counts records.dataset.entries)))) matrix
 
@@ -217,8 +217,9 @@ pub record IsAnalysed (words : AnalyseWords) (rows : Rows) (report : List ℕ) :
   pub tables : sum (map (length {A = List ℕ}) (rings_in records))
       ≡ length (fiber_of records.model.matrix (counts records.dataset.entries))
   pub narrow : (p_value_in records).whole < 2 ^ 128
-  pub text : report ≡ report_text (tested_report words records.model_name records.dataset_name
-      records.model (counts records.dataset.entries) (rings_in records) (p_value_in records))
+  pub text : report ≡ report_text (tested_report words.name words.basis records.model_name
+      records.dataset_name records.model (counts records.dataset.entries) (rings_in records)
+      (p_value_in records))
 
 pub is_analysed : (words : AnalyseWords) (rows : Rows) (report : List ℕ) →
     report_named words rows ≡ Ok report → IsAnalysed words rows report

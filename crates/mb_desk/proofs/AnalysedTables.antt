@@ -7,8 +7,8 @@ use Rattle.mb_matrix.specs.Limits.{largest_entry}
 use Rattle.mb_matrix.proofs.MarginBounds.{margins_at_most}
 use Rattle.mb_matrix.specs.Matrix.{Design, IsDesign, margins_of}
 use Rattle.mb_matrix.specs.Measure.{Weighting}
-use Rattle.mb_walk.proofs.FiberSteps.{fiber-start}
-use Rattle.mb_walk.specs.Ring.{Ring, tables_of}
+use Rattle.mb_rings.proofs.FiberSteps.{fiber-start}
+use Rattle.mb_rings.specs.Ring.{Ring, tables_of}
 
 -- where the counts add up to at most 1,000,000, the margins fit 32 bits
 pub total-margins : (matrix : Design) (table : List ℕ) → IsDesign matrix → sum table ≤ 1000000 →

@@ -14,26 +14,26 @@ use Rattle.mb_desk.specs.LeastPaths.{least_path}
 use Rattle.mb_desk.specs.declared.refusals.Refusal.{Refusal}
 use Rattle.mb_desk.specs.declared.refusals.Refusal.TheVariants as refusals
 use Rattle.mb_matrix.specs.Matrix.{Design, IsDesign, IsMove, fiber_of}
+use Rattle.mb_paths.proofs.GivenPaths.{left-long}
+use Rattle.mb_paths.specs.Beside.{AreMovesOf, BesideAnswers, HasPathsBefore, IsPathOf, left_table, right_table, with_moves}
+use Rattle.mb_paths.specs.Between.{IsApart, PassesLimit, ball}
+use Rattle.mb_paths.specs.declared.beside_fault.BesideFault.{BesideFault}
+use Rattle.mb_paths.specs.declared.beside_fault.BesideFault.TheVariants as faults
+use Rattle.mb_rings.proofs.DistinctTables.{length-le_distinct}
+use Rattle.mb_rings.proofs.FiberSteps.{fiber-ascends, fiber-closed, fiber-start}
+use Rattle.mb_rings.proofs.PathOrder.{before-shorter}
+use Rattle.mb_rings.proofs.Reaching.{reaches_joined}
+use Rattle.mb_rings.proofs.RingDistances.{ring-steps, some-ring, tables-more}
+use Rattle.mb_rings.proofs.RingEnds.{rings_end}
+use Rattle.mb_rings.proofs.RingSteps.{length-rings_to, rings_to-distinct, rings_to-joined, rings_to-step}
+use Rattle.mb_rings.specs.Ring.{reached, rings_of, rings_to, tables_of}
+use Rattle.mb_rings.specs.ShortestPath.{IsLeastPath}
 use Rattle.mb_tables.proofs.ListLaws.{In-filter_only, In-map, place-in, range-only}
 use Rattle.mb_tables.specs.Answers.{Gives, ◌>>=◌}
 use Rattle.mb_tables.specs.Chain.{Chain, Joined}
 use Rattle.mb_tables.specs.Lists.{In}
 use Rattle.mb_tables.specs.Rows.{Rows}
 use Rattle.mb_tables.specs.Step.{OneApart}
-use Rattle.mb_walk.proofs.DistinctTables.{length-le_distinct}
-use Rattle.mb_walk.proofs.FiberSteps.{fiber-ascends, fiber-closed, fiber-start}
-use Rattle.mb_walk.proofs.GivenPaths.{left-long}
-use Rattle.mb_walk.proofs.PathOrder.{before-shorter}
-use Rattle.mb_walk.proofs.Reaching.{reaches_joined}
-use Rattle.mb_walk.proofs.RingDistances.{ring-steps, some-ring, tables-more}
-use Rattle.mb_walk.proofs.RingEnds.{rings_end}
-use Rattle.mb_walk.proofs.RingSteps.{length-rings_to, rings_to-distinct, rings_to-joined, rings_to-step}
-use Rattle.mb_walk.specs.Beside.{AreMovesOf, BesideAnswers, HasPathsBefore, IsPathOf, left_table, right_table, with_moves}
-use Rattle.mb_walk.specs.Between.{IsApart, PassesLimit, ball}
-use Rattle.mb_walk.specs.Ring.{reached, rings_of, rings_to, tables_of}
-use Rattle.mb_walk.specs.ShortestPath.{IsLeastPath}
-use Rattle.mb_walk.specs.declared.beside_fault.BesideFault.{BesideFault}
-use Rattle.mb_walk.specs.declared.beside_fault.BesideFault.TheVariants as faults
 
 -- ---- walks and chains
 

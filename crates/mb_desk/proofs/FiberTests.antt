@@ -18,18 +18,18 @@ use Rattle.mb_matrix.specs.Ascending.{occurrences}
 use Rattle.mb_matrix.specs.MarkovBasis.{IsMarkovBasis}
 use Rattle.mb_matrix.specs.Matrix.{Design, IsDesign, fiber_of}
 use Rattle.mb_matrix.specs.Measure.{Weighting}
+use Rattle.mb_rings.proofs.DistinctTables.{occurrences-distinct}
+use Rattle.mb_rings.proofs.FiberSteps.{fiber-ascends, fiber-closed, fiber-only, fiber-start}
+use Rattle.mb_rings.proofs.Reaching.{reaches_fiber}
+use Rattle.mb_rings.proofs.RingDistances.{rings-distance}
+use Rattle.mb_rings.proofs.RingEnds.{reached-distinct}
+use Rattle.mb_rings.specs.Ring.{Ring, reached, rings_of, tables_of}
+use Rattle.mb_rings.specs.Walk.{walk_of}
+use Rattle.mb_rings.specs.declared.fault.WalkFault.{WalkFault}
+use Rattle.mb_rings.specs.declared.fault.WalkFault.TheVariants.{TooLarge}
+use Rattle.mb_rings.specs.loops.RingList.{listed}
 use Rattle.mb_tables.proofs.ListLaws.{place-in}
 use Rattle.mb_tables.specs.Lists.{In}
-use Rattle.mb_walk.proofs.DistinctTables.{occurrences-distinct}
-use Rattle.mb_walk.proofs.FiberSteps.{fiber-ascends, fiber-closed, fiber-only, fiber-start}
-use Rattle.mb_walk.proofs.Reaching.{reaches_fiber}
-use Rattle.mb_walk.proofs.RingDistances.{rings-distance}
-use Rattle.mb_walk.proofs.RingEnds.{reached-distinct}
-use Rattle.mb_walk.specs.Ring.{Ring, reached, rings_of, tables_of}
-use Rattle.mb_walk.specs.Walk.{walk_of}
-use Rattle.mb_walk.specs.declared.fault.WalkFault.{WalkFault}
-use Rattle.mb_walk.specs.declared.fault.WalkFault.TheVariants.{TooLarge}
-use Rattle.mb_walk.specs.loops.RingList.{listed}
 use Rattle.mb_weights.proofs.TableOrders.{below-permutation, once-permutation, whole-permutation}
 use Rattle.mb_weights.specs.PValue.{Fraction, below_of, exact_p_value, tables_in, whole_of}
 

@@ -55,20 +55,20 @@ use Rattle.mb_moves.specs.declared.testing.Tested.TheVariants as tests
 use Rattle.mb_order.specs.declared.order.Order.{Order}
 use Rattle.mb_outside.specs.Files.{Held, longest_file}
 use Rattle.mb_outside.specs.Rows as kept_rows
+use Rattle.mb_paths.specs.Beside.{left_table, right_table, with_moves}
+use Rattle.mb_paths.specs.Between.{ball}
 use Rattle.mb_registry.specs.Adding.{added_of, beside_kept, refers}
 use Rattle.mb_registry.specs.Kinds.{key_of}
 use Rattle.mb_registry.specs.Looking.{kept}
 use Rattle.mb_registry.specs.declared.adding.Added.TheVariants.{Unchanged}
 use Rattle.mb_registry.specs.declared.fault.RegistryFault.TheVariants as faults
 use Rattle.mb_registry.specs.declared.kinds.Kind.{Kind}
+use Rattle.mb_rings.specs.Ring.{reached, rings_of}
+use Rattle.mb_rings.specs.Walk.{most_tables, walk_of}
+use Rattle.mb_rings.specs.declared.fault.WalkFault.{WalkFault}
+use Rattle.mb_rings.specs.declared.fault.WalkFault.TheVariants as walks
 use Rattle.mb_tables.specs.Answers.{◌>>=◌}
 use Rattle.mb_tables.specs.Rows.{Rows}
-use Rattle.mb_walk.specs.Beside.{left_table, right_table, with_moves}
-use Rattle.mb_walk.specs.Between.{ball}
-use Rattle.mb_walk.specs.Ring.{reached, rings_of}
-use Rattle.mb_walk.specs.Walk.{most_tables, walk_of}
-use Rattle.mb_walk.specs.declared.fault.WalkFault.{WalkFault}
-use Rattle.mb_walk.specs.declared.fault.WalkFault.TheVariants as walks
 use Rattle.mb_weights.specs.PValue.{exact_p_value}
 
 -- ---- faults that are never answered

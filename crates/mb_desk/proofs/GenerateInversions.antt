@@ -18,8 +18,8 @@ use Rattle.mb_desk.specs.declared.exact_test.NumbersFault.TheVariants as faults
 use Rattle.mb_matrix.specs.Matrix.{fiber_of}
 use Rattle.mb_order.specs.Rewriting.{Rule}
 use Rattle.mb_order.specs.declared.order.Order.TheVariants.{Grevlex}
-use Rattle.mb_walk.specs.Ring.{rings_of}
-use Rattle.mb_walk.specs.Walk.{most_tables}
+use Rattle.mb_rings.specs.Ring.{rings_of}
+use Rattle.mb_rings.specs.Walk.{most_tables}
 use Rattle.mb_weights.specs.PValue.{Fraction, exact_p_value}
 
 -- the run ends as is computed

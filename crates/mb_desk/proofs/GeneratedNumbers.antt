@@ -27,9 +27,9 @@ use Rattle.mb_matrix.specs.Matrix.{Design, fiber_of, margins_of}
 use Rattle.mb_matrix.specs.Measure.{Weighting}
 use Rattle.mb_order.specs.Rewriting.{Rule}
 use Rattle.mb_order.specs.declared.order.Order.TheVariants.{Grevlex}
+use Rattle.mb_rings.specs.Ring.{rings_of}
+use Rattle.mb_rings.specs.Walk.{most_tables}
 use Rattle.mb_tables.specs.Answers.{IsRefused, ◌>>=◌}
-use Rattle.mb_walk.specs.Ring.{rings_of}
-use Rattle.mb_walk.specs.Walk.{most_tables}
 use Rattle.mb_weights.specs.PValue.{exact_p_value}
 use Rattle.mb_weights.specs.Weight.{weight_of}
 

@@ -38,10 +38,14 @@ use Rattle.mb_order.proofs.PeakLaws.{left-is}
 use Rattle.mb_order.specs.MarginFree.{margin_free}
 use Rattle.mb_order.specs.Order.{monomial_cmp}
 use Rattle.mb_order.specs.Peak.{left_of, right_in, right_of}
+use Rattle.mb_paths.proofs.GivenPaths.{beside-valid}
+use Rattle.mb_paths.specs.Beside.{AreLeastPaths, AreMovesOf, IsPathOf, left_table, right_table, with_moves}
+use Rattle.mb_paths.specs.Between.{ball}
 use Rattle.mb_registry.specs.Bodies.{basis_text}
 use Rattle.mb_registry.specs.Kinds.{key_of}
 use Rattle.mb_registry.specs.Looking.{basis_named}
 use Rattle.mb_registry.specs.declared.kinds.Kind.TheVariants.{Basis, Model}
+use Rattle.mb_rings.specs.Ring.{reached, rings_of}
 use Rattle.mb_rules.proofs.ByMoves.{joined}
 use Rattle.mb_rules.specs.Elimination.{PathsJoin}
 use Rattle.mb_tables.proofs.ListLaws.{In-filter, In-map_range, In-place, In-range, place-within}
@@ -49,10 +53,6 @@ use Rattle.mb_tables.specs.Answers.{◌>>=◌}
 use Rattle.mb_tables.specs.Lists.{In}
 use Rattle.mb_tables.specs.Rows.{Rows}
 use Rattle.mb_text.specs.Name.{IsName}
-use Rattle.mb_walk.proofs.GivenPaths.{beside-valid}
-use Rattle.mb_walk.specs.Beside.{AreLeastPaths, AreMovesOf, IsPathOf, left_table, right_table, with_moves}
-use Rattle.mb_walk.specs.Between.{ball}
-use Rattle.mb_walk.specs.Ring.{reached, rings_of}
 
 -- ---- the paths that were found
 

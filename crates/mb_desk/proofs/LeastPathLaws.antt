@@ -9,11 +9,11 @@ use Rattle.mb_certificate.proofs.Walking.{Walks-walk, walk-Walks}
 use Rattle.mb_certificate.specs.FirstFault.{walk}
 use Rattle.mb_certificate.specs.Valid.{MovesBy, Walks}
 use Rattle.mb_desk.specs.LeastPaths.{ends_at, leads, least_path, lists_of, lists_to, soonest, sooner, steps_of}
+use Rattle.mb_rings.proofs.PathOrder.{before-never_itself, before-one_way, before-shorter, before-upto, upto-from_not}
+use Rattle.mb_rings.specs.ShortestPath.{IsLeastPath, path_cmp}
+use Rattle.mb_rings.specs.loops.Before.{IsBefore}
 use Rattle.mb_tables.proofs.ListLaws.{In-cases, In-filter, In-filter_only, In-left, In-map, In-map_range, In-right, place-within}
 use Rattle.mb_tables.specs.Lists.{In}
-use Rattle.mb_walk.proofs.PathOrder.{before-never_itself, before-one_way, before-shorter, before-upto, upto-from_not}
-use Rattle.mb_walk.specs.ShortestPath.{IsLeastPath, path_cmp}
-use Rattle.mb_walk.specs.loops.Tree.{IsBefore}
 
 -- ---- the soonest of some paths
 

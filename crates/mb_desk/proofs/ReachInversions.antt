@@ -25,19 +25,19 @@ use Rattle.mb_moves.specs.TableText.{are_counts, only_row, table_in}
 use Rattle.mb_moves.specs.declared.table_text.NoTable.TheVariants as tables
 use Rattle.mb_outside.specs.Files.{Held}
 use Rattle.mb_reports.specs.RingTable.{ring_table_of}
+use Rattle.mb_rings.proofs.FiberSteps.{fiber-ascends, fiber-closed, fiber-start}
+use Rattle.mb_rings.proofs.Reaching.{reaches_joined}
+use Rattle.mb_rings.proofs.RingDistances.{rings-distance}
+use Rattle.mb_rings.specs.Ring.{Ring, rings_of, tables_of}
+use Rattle.mb_rings.specs.Walk.{walk_of, within_limit}
+use Rattle.mb_rings.specs.declared.fault.WalkFault.{WalkFault}
+use Rattle.mb_rings.specs.declared.fault.WalkFault.TheVariants.{TooLarge}
 use Rattle.mb_tables.specs.Answers.{◌>>=◌}
 use Rattle.mb_tables.specs.Chain.{Joined}
 use Rattle.mb_tables.specs.Limits.{largest_total, most_cells, most_moves}
 use Rattle.mb_tables.specs.Lists.{In}
 use Rattle.mb_tables.specs.Rows.{Rows}
 use Rattle.mb_text.specs.Tokens.{tokens}
-use Rattle.mb_walk.proofs.FiberSteps.{fiber-ascends, fiber-closed, fiber-start}
-use Rattle.mb_walk.proofs.Reaching.{reaches_joined}
-use Rattle.mb_walk.proofs.RingDistances.{rings-distance}
-use Rattle.mb_walk.specs.Ring.{Ring, rings_of, tables_of}
-use Rattle.mb_walk.specs.Walk.{walk_of, within_limit}
-use Rattle.mb_walk.specs.declared.fault.WalkFault.{WalkFault}
-use Rattle.mb_walk.specs.declared.fault.WalkFault.TheVariants.{TooLarge}
 
 -- a conjunction that is true has true parts
 both_true : (a b : Bool) → (a && b) ≡ true → (a ≡ true) × (b ≡ true)

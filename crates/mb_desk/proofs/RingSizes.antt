@@ -1,7 +1,7 @@
 -- The sizes of rings.
 use Rattle.std.proofs.Common.{List, Some, [], ap, arith, length, map, slice_get, suc, sum_by, take, zero, ℕ, ◌++◌, ◌∷◌, ◌≡◌, ◌≤◌}
 use Rattle.std.proofs.lemmas.List.Sums.{sum_by-cons}
-use Rattle.mb_walk.specs.Ring.{Ring}
+use Rattle.mb_rings.specs.Ring.{Ring}
 
 -- the size of one ring more
 pub sizes-more : (rings : List Ring) (k : ℕ) (ring : Ring) → slice_get rings k ≡ Some ring →

@@ -63,6 +63,6 @@ moves_said words moves f0 (Some f1) r0 None read said = tt
 moves_said words moves None (Some f1) r0 (Some r1) read said = absurd read
 moves_said words moves (Some f0) (Some f1) None (Some r1) read said = absurd said
 moves_said words moves (Some f0) (Some f1) (Some r0) (Some r1) read said =
-    λ other model c file asked.
+    λ other file model c asked.
     let one : other ≡ moves = cc in
     said model c (subst (λ m. imported words m r0 ≡ Ok (model, c)) one asked)

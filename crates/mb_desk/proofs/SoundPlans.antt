@@ -10,7 +10,6 @@ use Rattle.mb_desk.proofs.FreeRows.{removed_sound}
 use Rattle.mb_desk.proofs.ImportInversions.{is_imported}
 use Rattle.mb_desk.proofs.KeptRecords.{found_ok}
 use Rattle.mb_desk.proofs.LinkedRecords.{records_linked}
-use Rattle.mb_kinds.proofs.ReadModels.{model_reads}
 use Rattle.mb_desk.proofs.SoundRecords.{basis_sound, beside_sound, dataset_is, decided_keeps, kept_sound, looked_named, model_is}
 use Rattle.mb_desk.proofs.SoundReports.{made_few, made_fits, made_is_report, made_report, made_sound}
 use Rattle.mb_desk.proofs.StoredInversions.{keeps_dataset, keeps_model}
@@ -43,6 +42,7 @@ use Rattle.mb_desk.specs.declared.requests.ImportWords.{ImportWords}
 use Rattle.mb_desk.specs.declared.requests.ModelWords.{ModelWords}
 use Rattle.mb_desk.specs.declared.requests.Request.{Request}
 use Rattle.mb_desk.specs.declared.requests.Request.TheVariants as requests
+use Rattle.mb_kinds.proofs.ReadModels.{model_reads}
 use Rattle.mb_registry.proofs.ReadDatasets.{dataset_sound}
 use Rattle.mb_registry.specs.Bodies.{basis_body, basis_text, dataset_body, model_body}
 use Rattle.mb_registry.specs.Looking.{basis_named, dataset_named, model_named}
@@ -51,8 +51,8 @@ use Rattle.mb_registry.specs.Removing.{removed_of}
 use Rattle.mb_registry.specs.declared.kinds.Kind.{Kind}
 use Rattle.mb_registry.specs.declared.kinds.Kind.TheVariants.{Analysis, Basis, Dataset, Model}
 use Rattle.mb_reports.specs.RingTable.{ring_table_of}
+use Rattle.mb_rings.specs.Walk.{most_tables}
 use Rattle.mb_text.specs.Name.{IsName}
-use Rattle.mb_walk.specs.Walk.{most_tables}
 
 module _ (w : World) (plan : Plan) (sound : AreSound w.rows) where
   -- the rows after the plan are sound
@@ -127,7 +127,7 @@ module _ (w : World) (plan : Plan) (sound : AreSound w.rows) where
       basis_sound w.rows words.basis model is.named sound
       (found_ok (basis_named words.basis) w.rows (model, is.named) is.found_there) in
       kept_sound words.name (OfBasis model new) (certificate_lines new) w plan named
-      (is.of_model, said a.0 model new a.1 b.1) tt sound
+      (is.of_model, said a.0 a.1 model new b.1) tt sound
       (beside_sound w.rows model is.named new before
       (ap (λ (c : Certificate). c.matrix) is.beside.made) is.valid_new)
       b.2

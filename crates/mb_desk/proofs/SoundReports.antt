@@ -19,9 +19,9 @@ use Rattle.mb_matrix.specs.declared.measure_fault.MeasureFault.{MeasureFault}
 use Rattle.mb_matrix.specs.declared.measure_fault.MeasureFault.TheVariants.{BadBase}
 use Rattle.mb_outside.specs.Rows.{Rows}
 use Rattle.mb_reports.specs.Report.{FitsReport, IsReport, Report}
+use Rattle.mb_rings.proofs.FiberSteps.{fiber-start}
+use Rattle.mb_rings.specs.Walk.{most_tables}
 use Rattle.mb_text.specs.Name.{IsName}
-use Rattle.mb_walk.proofs.FiberSteps.{fiber-start}
-use Rattle.mb_walk.specs.Walk.{most_tables}
 use Rattle.mb_weights.proofs.CellFactors.{weight_above}
 use Rattle.mb_weights.proofs.SummedTables.{at_most-cons, observed_within}
 use Rattle.mb_weights.specs.PValue.{at_most, whole_of}

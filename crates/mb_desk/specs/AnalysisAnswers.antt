@@ -18,7 +18,7 @@ use Rattle.mb_outside.specs.Rows.{Rows}
 use Rattle.mb_registry.specs.Bodies.{basis_text}
 use Rattle.mb_registry.specs.declared.kinds.Kind.TheVariants.{Analysis, Basis}
 use Rattle.mb_reports.specs.Report.{Report, report_text}
-use Rattle.mb_walk.specs.Ring.{Ring}
+use Rattle.mb_rings.specs.Ring.{Ring}
 use Rattle.mb_weights.specs.PValue.{Fraction}
 use Rattle.mb_weights.specs.Weight.{weight_of}
 
@@ -40,12 +40,12 @@ pub record AnswersBasis (words : BasisWords) (before after : Rows) (answer : Lis
   pub kept : IsKept Basis words.name (basis_text words.model certificate)
       (completion_lines (record { certificate = certificate; looks = looks })) before after answer
 
--- the report on the exact test of a dataset's table, by the names of the records
+-- the report, under a name, on the exact test of a dataset's table, by the names of the records
 abbrev pub tested_report :
-    AnalyseWords → List ℕ → List ℕ → ModelValue → List ℕ → List Ring → Fraction → Report
-tested_report words model_name dataset_name model observed rings fraction = record {
-  name = words.name;
-  basis = words.basis;
+    List ℕ → List ℕ → List ℕ → List ℕ → ModelValue → List ℕ → List Ring → Fraction → Report
+tested_report name basis model_name dataset_name model observed rings fraction = record {
+  name = name;
+  basis = basis;
   model = model_name;
   dataset = dataset_name;
   observed = observed;
@@ -81,7 +81,7 @@ pub record AnswersAnalyse (words : AnalyseWords) (before after : Rows) (answer :
         ≡ length (fiber_of model.matrix (counts dataset.entries))
     pub narrow : fraction.whole < 2 ^ 128
     pub kept : IsKept Analysis words.name
-        (report_text (tested_report words model_name dataset_name model (counts dataset.entries) rings
-        fraction))
-        (report_text (tested_report words model_name dataset_name model (counts dataset.entries) rings
-        fraction)) before after answer
+        (report_text (tested_report words.name words.basis model_name dataset_name model
+        (counts dataset.entries) rings fraction))
+        (report_text (tested_report words.name words.basis model_name dataset_name model
+        (counts dataset.entries) rings fraction)) before after answer

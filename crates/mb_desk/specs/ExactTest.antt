@@ -10,10 +10,10 @@ use Rattle.mb_matrix.specs.Ascending.{occurrences}
 use Rattle.mb_matrix.specs.MarkovBasis.{IsMarkovBasis}
 use Rattle.mb_matrix.specs.Matrix.{Design, fiber_of}
 use Rattle.mb_matrix.specs.Measure.{Weighting}
+use Rattle.mb_rings.specs.Distance.{IsAtDistance}
+use Rattle.mb_rings.specs.Ring.{Ring, rings_of, tables_of}
 use Rattle.mb_tables.specs.Answers.{◌>>=◌}
 use Rattle.mb_tables.specs.Lists.{In}
-use Rattle.mb_walk.specs.Distance.{IsAtDistance}
-use Rattle.mb_walk.specs.Ring.{Ring, rings_of, tables_of}
 use Rattle.mb_weights.specs.PValue.{Fraction, exact_p_value}
 use Rattle.mb_weights.specs.Weight.{weight_of}
 use Rattle.mb_weights.specs.declared.p_value.Weighed.{Weighed}

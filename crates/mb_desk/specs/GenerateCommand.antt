@@ -19,9 +19,9 @@ use Rattle.mb_desk.specs.declared.refusals.Refusal.TheVariants as refusals
 use Rattle.mb_matrix.specs.Matrix.{Design, fiber_of}
 use Rattle.mb_matrix.specs.Measure.{Weighting}
 use Rattle.mb_order.specs.declared.order.Order.TheVariants.{Grevlex}
+use Rattle.mb_rings.specs.Walk.{most_tables}
 use Rattle.mb_tables.specs.Answers.{◌>>=◌}
 use Rattle.mb_text.specs.Lines.{line}
-use Rattle.mb_walk.specs.Walk.{most_tables}
 use Rattle.mb_weights.specs.Decimals.{decimals_of}
 use Rattle.mb_weights.specs.PValue.{Fraction}
 

@@ -21,12 +21,12 @@ use Rattle.mb_matrix.specs.MarkovBasis.{IsMarkovBasis}
 use Rattle.mb_moves.specs.GridText.{matrix_of, moves_of}
 use Rattle.mb_outside.specs.Files.{Held}
 use Rattle.mb_reports.specs.RingTable.{ring_table_of}
+use Rattle.mb_rings.specs.Ring.{Ring, tables_of}
+use Rattle.mb_rings.specs.Walk.{most_tables}
 use Rattle.mb_tables.specs.Chain.{Joined}
 use Rattle.mb_tables.specs.Limits.{largest_total}
 use Rattle.mb_tables.specs.Lists.{In}
 use Rattle.mb_tables.specs.Rows.{IsMoveOf, Rows}
-use Rattle.mb_walk.specs.Ring.{Ring, tables_of}
-use Rattle.mb_walk.specs.Walk.{most_tables}
 use Rattle.mb_weights.specs.PValue.{Fraction}
 
 -- ---- what a named file reads as

@@ -9,10 +9,10 @@ use Rattle.mb_desk.specs.World.{World}
 use Rattle.mb_desk.specs.declared.requests.ImportWords.{ImportWords}
 use Rattle.mb_matrix.specs.MarkovBasis.{IsMarkovBasis}
 use Rattle.mb_moves.specs.GridText.{moves_of}
+use Rattle.mb_paths.specs.Beside.{AreLeastPaths, with_moves}
 use Rattle.mb_registry.specs.Bodies.{basis_text}
 use Rattle.mb_registry.specs.declared.kinds.Kind.TheVariants.{Basis}
 use Rattle.mb_tables.specs.Rows.{Rows}
-use Rattle.mb_walk.specs.Beside.{AreLeastPaths, with_moves}
 
 -- `import`: the text of the file says moves that are a Markov basis of the matrix of the named
 -- basis. The certificate that is kept is valid, and is that of the named basis with these moves and,

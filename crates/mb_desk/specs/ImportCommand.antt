@@ -22,16 +22,16 @@ use Rattle.mb_matrix.specs.Matrix.{Design}
 use Rattle.mb_moves.specs.GridText.{moves_of}
 use Rattle.mb_outside.specs.Files.{Held}
 use Rattle.mb_outside.specs.Rows as kept_rows
+use Rattle.mb_paths.specs.Beside.{left_table, right_table, with_moves}
+use Rattle.mb_paths.specs.Between.{ball}
+use Rattle.mb_paths.specs.declared.beside_fault.BesideFault.{BesideFault}
+use Rattle.mb_paths.specs.declared.beside_fault.BesideFault.TheVariants as faults
 use Rattle.mb_registry.specs.Bodies.{basis_text}
 use Rattle.mb_registry.specs.Looking.{basis_named}
 use Rattle.mb_registry.specs.declared.kinds.Kind.TheVariants.{Basis, Model}
+use Rattle.mb_rings.specs.Ring.{reached, rings_of}
 use Rattle.mb_tables.specs.Answers.{◌>>=◌}
 use Rattle.mb_tables.specs.Rows.{Rows}
-use Rattle.mb_walk.specs.Beside.{left_table, right_table, with_moves}
-use Rattle.mb_walk.specs.Between.{ball}
-use Rattle.mb_walk.specs.Ring.{reached, rings_of}
-use Rattle.mb_walk.specs.declared.beside_fault.BesideFault.{BesideFault}
-use Rattle.mb_walk.specs.declared.beside_fault.BesideFault.TheVariants as faults
 
 -- ---- moves beside a certificate
 

@@ -3,7 +3,7 @@ use Rattle.std.specs.List.{filter, flat_map}
 use Rattle.std.specs.Ordering.{is_lt}
 use Rattle.std.specs.Prelude.{Bool, List, None, Option, Some, [], if◌then◌else◌, false, length, map, negsuc, pos, suc, zero, ℕ, ℤ, ◌++◌, ◌∷◌}
 use Rattle.mb_certificate.specs.FirstFault.{are_same, walk}
-use Rattle.mb_walk.specs.ShortestPath.{path_cmp}
+use Rattle.mb_rings.specs.ShortestPath.{path_cmp}
 
 -- the steps that so many moves have: each is added, and each is subtracted
 unfoldable pub steps_of : ℕ → List ℤ

@@ -1,6 +1,6 @@
 -- The limits of the desk, each a number.
 use Rattle.std.specs.Prelude.{ℕ, ◌≤◌}
-use Rattle.mb_walk.specs.Walk.{most_tables}
+use Rattle.mb_rings.specs.Walk.{most_tables}
 
 -- the greatest limit of `reach` and of `import`, which is also the one where none is given
 abbrev pub largest_limit : ℕ

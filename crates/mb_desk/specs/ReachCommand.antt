@@ -19,12 +19,12 @@ use Rattle.mb_moves.specs.GridText.{matrix_of, moves_of}
 use Rattle.mb_moves.specs.TableText.{table_in}
 use Rattle.mb_outside.specs.Files.{Held}
 use Rattle.mb_reports.specs.RingTable.{ring_table_of}
+use Rattle.mb_rings.specs.Ring.{Ring}
+use Rattle.mb_rings.specs.Walk.{walk_of}
+use Rattle.mb_rings.specs.declared.fault.WalkFault.{WalkFault}
+use Rattle.mb_rings.specs.declared.fault.WalkFault.TheVariants as walks
 use Rattle.mb_tables.specs.Answers.{◌>>=◌}
 use Rattle.mb_tables.specs.Rows.{Rows}
-use Rattle.mb_walk.specs.Ring.{Ring}
-use Rattle.mb_walk.specs.Walk.{walk_of}
-use Rattle.mb_walk.specs.declared.fault.WalkFault.{WalkFault}
-use Rattle.mb_walk.specs.declared.fault.WalkFault.TheVariants as walks
 
 -- the refusal of a matrix for its fault; no matrix has the last of these
 abbrev pub matrix_refusal : MatrixFault → Refusal

@@ -1,9 +1,10 @@
 -- Sound rows: orderly rows whose records fit each other.
-use Rattle.std.specs.Prelude.{List, Ok, length, map, ℕ, ◌≡◌}
+use Rattle.std.specs.Prelude.{List, Ok, length, ℕ, ◌≡◌}
 use Rattle.mb_certificate.specs.Certificate.{Certificate}
 use Rattle.mb_certificate.specs.Valid.{IsValid}
 use Rattle.mb_data.specs.CrossTable.{CrossTable, counts}
 use Rattle.mb_desk.specs.AnalyseCommand.{records_named}
+use Rattle.mb_desk.specs.AnalysisAnswers.{tested_report}
 use Rattle.mb_desk.specs.ExactTest.{IsExactTest}
 use Rattle.mb_desk.specs.declared.commands.analyse.Records.{Records}
 use Rattle.mb_kinds.specs.Model.{ModelValue}
@@ -13,9 +14,8 @@ use Rattle.mb_registry.specs.Orderly.{AreOrderly}
 use Rattle.mb_registry.specs.Records.{OfAnalysis, OfBasis, OfDataset, OfModel, RecordValue}
 use Rattle.mb_registry.specs.declared.kinds.Kind.{Kind}
 use Rattle.mb_reports.specs.Report.{Report}
-use Rattle.mb_walk.specs.Ring.{Ring}
+use Rattle.mb_rings.specs.Ring.{Ring}
 use Rattle.mb_weights.specs.PValue.{Fraction}
-use Rattle.mb_weights.specs.Weight.{weight_of}
 
 -- a model has as many cells as the dataset that it names
 pub record IsSoundModel (rows : Rows) (dataset : List ℕ) (model : ModelValue) : Type 0 where
@@ -33,17 +33,9 @@ pub record IsSoundBasis (rows : Rows) (name : List ℕ) (c : Certificate) : Type
 
 -- the report, under a name, on the exact test by a basis, of the records that it leads to
 abbrev pub test_report : List ℕ → List ℕ → Records → List Ring → Fraction → Report
-test_report name basis records rings fraction = record {
-  name = name;
-  basis = basis;
-  model = records.model_name;
-  dataset = records.dataset_name;
-  observed = counts records.dataset.entries;
-  rings = map length rings;
-  weight = weight_of records.model.measure (counts records.dataset.entries);
-  below = fraction.below;
-  whole = fraction.whole;
-}
+test_report name basis records rings fraction =
+    tested_report name basis records.model_name records.dataset_name records.model
+    (counts records.dataset.entries) rings fraction
 
 -- an analysis is the report on the exact test of the dataset that its basis leads to, by the moves
 -- of this basis

@@ -24,9 +24,9 @@ use Rattle.mb_outside.specs.Rows as kept_rows
 use Rattle.mb_registry.specs.declared.adding.Added.{Added}
 use Rattle.mb_registry.specs.declared.adding.Added.TheVariants.{Unchanged}
 use Rattle.mb_registry.specs.declared.kinds.Kind.{Kind}
+use Rattle.mb_rings.specs.Walk.{most_tables}
 use Rattle.mb_tables.specs.Rows.{Rows}
 use Rattle.mb_text.specs.Name.{IsName}
-use Rattle.mb_walk.specs.Walk.{most_tables}
 
 -- ---- requests
 
@@ -69,8 +69,7 @@ CanBeSaid (requests.Dataset name file) w = Unit {0}
 CanBeSaid (requests.Model words) w = Unit {0}
 CanBeSaid (requests.Basis words) w = CompletedIsSaid words w.rows
 CanBeSaid (requests.Import words) w =
-    (moves : Rows) (model : List ℕ) (c : Certificate) → moves_file words.moves w.files ≡ Ok moves →
-    imported words moves w.rows ≡ Ok (model, c) → AreParts c
+    (moves : Rows) → moves_file words.moves w.files ≡ Ok moves → ImportedIsSaid words moves w.rows
 CanBeSaid (requests.Analyse words) w = Unit {0}
 CanBeSaid (requests.Report name) w = Unit {0}
 CanBeSaid requests.List w = Unit {0}

@@ -3,20 +3,20 @@ use Rattle.std.specs.List.{list_any}
 use Rattle.std.specs.Prelude.{Bool, List, None, Option, Some, String, [], codes, false, if◌then◌else◌, length, map, nat_eq, nat_le, not, option_map, string_bytes, true, ℕ, ◌&&◌, ◌++◌, ◌∷◌}
 use Rattle.std.specs.Str.{bytes_eq}
 use Rattle.std.specs.declared.alloc.Global.{Global}
+use Rattle.mb_completion.specs.Limits.{most_looks}
 use Rattle.mb_desk.specs.Limits.{largest_limit, largest_seed, longest_word, most_workers}
-use Rattle.mb_registry.specs.declared.kinds.Kind.{Kind}
-use Rattle.mb_registry.specs.declared.kinds.Kind.TheVariants as kinds
 use Rattle.mb_desk.specs.declared.parts.Part.{Part}
 use Rattle.mb_desk.specs.declared.parts.Part.TheVariants as parts
 use Rattle.mb_desk.specs.declared.requests.Request.{Request}
 use Rattle.mb_desk.specs.declared.requests.Request.TheVariants as requests
 use Rattle.mb_desk.specs.declared.requests.Request.TheVariants.{Analyse, Basis, Check, Dataset, Export, Generate, Import, Model, Moves, Reach, Remove, Report}
-use Rattle.mb_completion.specs.Limits.{most_looks}
 use Rattle.mb_order.specs.declared.order.Order.{Order}
 use Rattle.mb_order.specs.declared.order.Order.TheVariants.{Grevlex, Lex}
+use Rattle.mb_registry.specs.declared.kinds.Kind.{Kind}
+use Rattle.mb_registry.specs.declared.kinds.Kind.TheVariants as kinds
+use Rattle.mb_rings.specs.Walk.{most_tables}
 use Rattle.mb_text.specs.Name.{is_name}
 use Rattle.mb_text.specs.Plain.{at_most, plain_of}
-use Rattle.mb_walk.specs.Walk.{most_tables}
 
 -- the bytes of each word
 abbrev pub texts : List (String Global) → List (List ℕ)

@@ -16,10 +16,10 @@ ghost use Rattle.mb_desk.specs.ExactTest.{
 ghost use Rattle.mb_matrix.specs.Key.{digits_of};
 ghost use Rattle.mb_matrix.specs.Matrix.{fiber_of, margins_of};
 ghost use Rattle.mb_matrix.specs.Measure.{IsMeasureOf};
+ghost use Rattle.mb_rings.specs.Ring.{rings_of};
+ghost use Rattle.mb_rings.specs.Walk.{most_tables};
+ghost use Rattle.mb_rings.specs.Walked.{AreClaims};
 ghost use Rattle.mb_tables.specs.Answers.{Gives};
-ghost use Rattle.mb_walk.specs.Ring.{rings_of};
-ghost use Rattle.mb_walk.specs.Walk.{most_tables};
-ghost use Rattle.mb_walk.specs.Walked.{AreClaims};
 ghost use Rattle.mb_weights.specs.PValue.{exact_p_value};
 ghost use Rattle.mb_weights.specs.Weight.{weight_of};
 
@@ -28,8 +28,9 @@ use mb_checker::{Verdict, check};
 use mb_claims::Root;
 use mb_matrix::Measure;
 use mb_outside::Gate;
+use mb_rings::{Rings, WalkFault};
 use mb_tables::Table;
-use mb_walk::{Rings, WalkFault, walk};
+use mb_walk::walk;
 use mb_weights::{Weighed, fraction};
 use std::alloc::{AllocError, AllocFailed, Global};
 use std::thread::Threads;

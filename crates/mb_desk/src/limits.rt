@@ -2,7 +2,7 @@
 ghost use Rattle.std.specs.Prelude.{◌≡◌, ◌≤◌};
 ghost use Rattle.mb_completion.specs.Limits.{most_looks};
 ghost use Rattle.mb_desk.specs.Limits.{largest_limit, most_workers};
-ghost use Rattle.mb_walk.specs.Walk.{most_tables};
+ghost use Rattle.mb_rings.specs.Walk.{most_tables};
 
 use std::marker::Model;
 

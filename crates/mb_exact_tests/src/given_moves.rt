@@ -5,8 +5,8 @@ use crate::models::{certificate_of, matrix_of, moves_of};
 use mb_certificate::{Certificate, write};
 use mb_checker::{Verdict, check};
 use mb_order::Order;
+use mb_paths::{BesideFault, beside};
 use mb_tables::{Moves, Table};
-use mb_walk::{BesideFault, beside};
 use std::alloc::Global;
 use std::test::Fail;
 

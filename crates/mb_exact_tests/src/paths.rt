@@ -8,8 +8,9 @@ ghost use Rattle.mb_matrix.specs.Matrix.{IsMove};
 use crate::between_paths::CASES;
 use crate::models::{has_small_margins, matrix_of, moves_of, table_of};
 use mb_matrix::Matrix;
+use mb_paths::{Between, between};
+use mb_rings::WalkFault;
 use mb_tables::{Moves, Table};
-use mb_walk::{Between, WalkFault, between};
 use std::alloc::Global;
 use std::test::Fail;
 

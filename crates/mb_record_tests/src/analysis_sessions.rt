@@ -1,8 +1,8 @@
 //! Sessions of exact tests: the report of each kind of model, its limits, and what it is kept as.
 
-use crate::records::{BASIS, INDEPENDENCE, MODEL, OF_M1, REPORT, TWO_BY_TWO};
-use crate::sessions::{Step, first_wrong};
 use mb_desk::Status;
+use mb_sessions::records::{BASIS, INDEPENDENCE, MODEL, OF_M1, REPORT, TWO_BY_TWO};
+use mb_sessions::{Step, first_wrong};
 use std::test::Fail;
 
 /// Independence of two by two: limits, the report, and an analysis that is kept once.

@@ -1,8 +1,8 @@
 //! Sessions of bases: completed, exported, and read back.
 
-use crate::records::{BASIS, CERTIFICATE, INDEPENDENCE, MODEL, OF_M1, RULES, TWO_BY_TWO};
-use crate::sessions::{Step, first_wrong};
 use mb_desk::Status;
+use mb_sessions::records::{BASIS, CERTIFICATE, INDEPENDENCE, MODEL, OF_M1, RULES, TWO_BY_TWO};
+use mb_sessions::{Step, first_wrong};
 use std::test::Fail;
 
 /// Independence of two by two under both orders, with as many looks as it takes and with fewer.

@@ -1,8 +1,8 @@
 //! Sessions of datasets: kept, listed, exported and taken out.
 
-use crate::records::{INDEPENDENCE, MODEL, TWO_BY_TWO};
-use crate::sessions::{Step, first_wrong};
 use mb_desk::Status;
+use mb_sessions::records::{INDEPENDENCE, MODEL, TWO_BY_TWO};
+use mb_sessions::{Step, first_wrong};
 use std::test::Fail;
 
 /// A dataset is kept once; one of another text under its name is a conflict; while a model refers

@@ -1,8 +1,8 @@
 //! Sessions of given moves: proved beside a certificate, refused, and used.
 
-use crate::records::{BASIS, FIRST_JOIN, JOINS, MODEL, OF_M1, RULES, STARTS, TWO_BY_TWO};
-use crate::sessions::{Step, first_wrong};
 use mb_desk::Status;
+use mb_sessions::records::{BASIS, FIRST_JOIN, JOINS, MODEL, OF_M1, RULES, STARTS, TWO_BY_TWO};
+use mb_sessions::{Step, first_wrong};
 use std::test::Fail;
 
 /// Independence of two by three: two moves that span the kernel are no Markov basis, a third makes

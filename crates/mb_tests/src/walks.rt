@@ -6,8 +6,9 @@ ghost use Rattle.mb_matrix.specs.Matrix.{IsMove, margins_of};
 
 use mb_matrix::Matrix;
 use mb_outside::{Gate, NoGate};
+use mb_rings::WalkFault;
 use mb_tables::{MOST_MOVES, Move, Moves, Table};
-use mb_walk::{WalkFault, walk};
+use mb_walk::walk;
 use std::alloc::{AllocError, Global};
 use std::test::Fail;
 use std::thread::Threads;

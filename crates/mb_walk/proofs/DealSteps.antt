@@ -1,18 +1,16 @@
 -- What a worker deals, part by part.
-use Rattle.std.proofs.Common.{zero, suc, ap, List, Some, [], arith, false, inl, inr, get_or, length, refl, slice_get, subst, sym, true, ℕ, ℤ, ◌++◌, ◌+◌, ◌<◌, ◌∙◌, ◌∷◌, ◌≡◌, ◌≤◌, ◌⊎◌, ⊎_elim}
+use Rattle.std.proofs.Common.{zero, suc, ap, List, Some, [], arith, inl, inr, get_or, length, slice_get, subst, sym, ℕ, ℤ, ◌+◌, ◌<◌, ◌∙◌, ◌∷◌, ◌≡◌, ◌≤◌, ◌⊎◌, ⊎_elim}
 use Rattle.std.proofs.lemmas.List.Sorted.{length_permutation}
 use Rattle.std.proofs.lemmas.Option.{get_or_from_slice_get}
 use Rattle.std.specs.List.Sorted.{IsPermutation}
-use Rattle.mb_tables.specs.Counts.{AreCounts}
+use Rattle.mb_rings.proofs.DistinctTables.{In-permutation, permutation-In}
+use Rattle.mb_rings.proofs.PlacesBelow.{NearBelow, Steps, SteppedBelow, all-near, all-stepped, below-cases, below-more, below-none, get-there, some-near, some-stepped, stepped-cases, stepped-more}
+use Rattle.mb_rings.specs.Ring.{Ring, tables_of}
 use Rattle.mb_tables.specs.Lists.{In}
 use Rattle.mb_tables.specs.Step.{IsNear, Moved, OneApart}
 use Rattle.mb_tables.specs.declared.sign.Sign.TheVariants.{Minus, Plus}
-use Rattle.mb_walk.proofs.DistinctTables.{In-permutation, permutation-In}
-use Rattle.mb_walk.proofs.PlacesBelow.{NearBelow, Steps, SteppedBelow, all-near, all-stepped, below-cases, below-more, below-none, get-there, some-near, some-stepped, stepped-cases, stepped-more}
-use Rattle.mb_walk.specs.Ring.{Ring}
 use Rattle.mb_walk.proofs.OwnedParts.{In-part, part-In, parts-put, put-tables}
 use Rattle.mb_walk.specs.Owned.{owner_of}
-use Rattle.mb_walk.specs.Ring.{tables_of}
 use Rattle.mb_walk.specs.loops.Piles.{AreParts, Deals, IsDealer, IsPut, IsWhole, dealt_by, kept}
 use Rattle.mb_walk.specs.declared.owner.Owner.{Owner}
 use Rattle.mb_walk.specs.declared.dealer.Dealer.{Dealer}

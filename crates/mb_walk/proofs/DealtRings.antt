@@ -1,23 +1,21 @@
 -- What workers deal of the tables one step from a ring.
-use Rattle.std.proofs.Common.{All, List, Some, [], ap, append_assoc, arith, false, get_or, inl, inr, length, length-append, nat_eq, refl, slice_get, subst, suc, sym, true, zero, ℕ, ℤ, ◌++◌, ◌+◌, ◌<◌, ◌∙◌, ◌∷◌, ◌≡◌, ◌≤◌, ◌⊎◌, ⊎_elim}
+use Rattle.std.proofs.Common.{All, List, Some, [], ap, arith, false, get_or, inl, inr, length, length-append, nat_eq, refl, slice_get, subst, suc, sym, true, ℕ, ℤ, ◌++◌, ◌+◌, ◌<◌, ◌∙◌, ◌∷◌, ◌≡◌, ◌≤◌, ⊎_elim}
 use Rattle.std.proofs.Math.Dec.{eqb-suc-zero}
 use Rattle.std.proofs.lemmas.Option.{get_or_from_slice_get}
+use Rattle.mb_rings.proofs.DistinctTables.{distinct-append, distinct-none}
+use Rattle.mb_rings.proofs.ListElements.{element}
+use Rattle.mb_rings.proofs.RingShares.{In-share, In-some_share}
+use Rattle.mb_rings.specs.Ring.{Ring, tables_of}
+use Rattle.mb_rings.specs.Share.{share_of}
+use Rattle.mb_rings.specs.declared.fault.WalkFault.{WalkFault}
+use Rattle.mb_rings.specs.declared.fault.WalkFault.TheVariants.{OutOfMemory, TooLarge}
+use Rattle.mb_rings.specs.loops.Found.{AreDistinct, IsSearchFault}
 use Rattle.mb_tables.proofs.ListLaws.{place-within}
-use Rattle.mb_tables.specs.Counts.{AreCounts}
 use Rattle.mb_tables.specs.Lists.{In}
 use Rattle.mb_tables.specs.Step.{IsNear}
-use Rattle.mb_walk.proofs.DistinctTables.{distinct-append, distinct-none}
 use Rattle.mb_walk.proofs.OwnedParts.{distinct-parts}
-use Rattle.mb_walk.proofs.RoundSteps.{element}
-use Rattle.mb_walk.proofs.ShareSteps.{In-share, In-some_share}
-use Rattle.mb_walk.specs.Owned.{owner_of}
-use Rattle.mb_walk.specs.Ring.{Ring, tables_of}
-use Rattle.mb_walk.specs.Share.{share_of}
 use Rattle.mb_walk.specs.declared.dealer.Dealer.{Dealer}
-use Rattle.mb_walk.specs.declared.fault.WalkFault.{WalkFault}
-use Rattle.mb_walk.specs.declared.fault.WalkFault.TheVariants.{OutOfMemory, TooLarge}
-use Rattle.mb_walk.specs.loops.Found.{AreDistinct, IsSearchFault}
-use Rattle.mb_walk.specs.loops.Piles.{AreDealt, AreParts, Deals, HasDealt, IsDealer, IsDealtBy, IsIdle, IsOver, IsWhole, dealt_by}
+use Rattle.mb_walk.specs.loops.Piles.{AreDealt, AreParts, Deals, HasDealt, IsDealer, IsIdle, IsOver, IsWhole, dealt_by}
 
 -- the tables of empty piles
 no-tables : (piles : List Ring) → All (λ pile. pile ≡ []) piles → tables_of piles ≡ []

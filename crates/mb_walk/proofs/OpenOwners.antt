@@ -1,14 +1,14 @@
 -- The owners at the start of a walk.
-use Rattle.std.proofs.Common.{List, [], ap, append-nil, arith, inl, inr, length, length-append, refl, subst, sym, ℕ, ◌++◌, ◌+◌, ◌<◌, ◌∙◌, ◌∷◌, ◌≡◌, ◌≤◌, ◌⊎◌, Some, slice_get, ⊎_elim, map}
+use Rattle.std.proofs.Common.{List, [], ap, append-nil, arith, inl, inr, length, length-append, refl, subst, sym, ℕ, ◌++◌, ◌+◌, ◌<◌, ◌∙◌, ◌∷◌, ◌≡◌, ◌≤◌, ◌⊎◌, Some, slice_get}
 use Rattle.std.proofs.lemmas.List.{length-map, map-append}
 use Rattle.std.specs.List.Sorted.{IsPermutation}
+use Rattle.mb_rings.proofs.DistinctTables.{distinct-cons, distinct-none, distinct-permutation, permutation-In}
+use Rattle.mb_rings.proofs.RingSteps.{tables_of-push}
+use Rattle.mb_rings.specs.Ring.{Ring, tables_of}
+use Rattle.mb_rings.specs.loops.Found.{AreDistinct}
 use Rattle.mb_tables.proofs.ListLaws.{get-front, get-last, place-within}
 use Rattle.mb_tables.specs.Lists.{In}
-use Rattle.mb_walk.proofs.DistinctTables.{distinct-cons, distinct-none, distinct-permutation, permutation-In}
-use Rattle.mb_walk.proofs.RingSteps.{tables_of-push}
 use Rattle.mb_walk.specs.Owned.{owner_of}
-use Rattle.mb_walk.specs.Ring.{Ring, tables_of}
-use Rattle.mb_walk.specs.loops.Found.{AreDistinct}
 use Rattle.mb_walk.specs.loops.Piles.{AreParts, IsPart, kept}
 use Rattle.mb_walk.specs.declared.owner.Owner.{Owner}
 

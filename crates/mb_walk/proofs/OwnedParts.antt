@@ -1,13 +1,13 @@
 -- Parts of a list of tables, each with an owner.
-use Rattle.std.proofs.Common.{List, Some, [], ap, append_assoc, arith, inl, inr, length, refl, slice_get, subst, suc, sym, zero, ℕ, ◌++◌, ◌+◌, ◌∙◌, ◌∷◌, ◌≡◌, ◌⊎◌}
+use Rattle.std.proofs.Common.{List, Some, [], ap, append_assoc, arith, inl, inr, refl, slice_get, subst, suc, sym, zero, ℕ, ◌++◌, ◌+◌, ◌∙◌, ◌∷◌, ◌≡◌, ◌⊎◌}
 use Rattle.std.proofs.lemmas.List.Sorted.{IsPermutation-append, IsPermutation-append_comm, IsPermutation-append_right, IsPermutation-refl, IsPermutation-trans}
 use Rattle.std.specs.List.Sorted.{IsPermutation}
+use Rattle.mb_rings.proofs.DistinctTables.{distinct-append, distinct-cons, distinct-none, distinct-permutation, permutation-In}
+use Rattle.mb_rings.proofs.ListElements.{In-flat, flat-In}
+use Rattle.mb_rings.specs.Ring.{Ring, tables_of}
+use Rattle.mb_rings.specs.loops.Found.{AreDistinct}
 use Rattle.mb_tables.specs.Lists.{In}
-use Rattle.mb_walk.proofs.DistinctTables.{distinct-append, distinct-cons, distinct-none, distinct-permutation, permutation-In}
-use Rattle.mb_walk.proofs.RoundSteps.{In-flat, flat-In}
 use Rattle.mb_walk.specs.Owned.{owner_of}
-use Rattle.mb_walk.specs.Ring.{Ring, tables_of}
-use Rattle.mb_walk.specs.loops.Found.{AreDistinct}
 use Rattle.mb_walk.specs.loops.Piles.{AreParts, IsPart, IsPut}
 
 -- a table stands in the part of its owner

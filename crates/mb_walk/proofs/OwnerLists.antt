@@ -1,7 +1,7 @@
 -- The lists of the owners, joined one by one.
 use Rattle.std.proofs.Common.{List, [], ap, append_assoc, arith, drop, get_or, length, refl, suc, sym, zero, ℕ, ◌++◌, ◌+◌, ◌<◌, ◌∙◌, ◌∷◌, ◌≡◌, slice_set}
 use Rattle.std.proofs.lemmas.List.{drop_more}
-use Rattle.mb_walk.specs.Ring.{Ring, tables_of}
+use Rattle.mb_rings.specs.Ring.{Ring, tables_of}
 use Rattle.mb_walk.specs.loops.Piles.{joined, kept}
 use Rattle.mb_walk.specs.declared.owner.Owner.{Owner}
 

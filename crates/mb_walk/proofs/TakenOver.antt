@@ -1,22 +1,21 @@
 -- What the owners take over together.
-use Rattle.std.proofs.Common.{List, Some, [], ap, append_assoc, arith, false, get_or, inl, inr, length, length-append, refl, slice_get, subst, suc, sym, true, zero, ℕ, ℤ, ◌++◌, ◌+◌, ◌<◌, ◌∙◌, ◌∷◌, ◌≡◌, ◌≤◌, ◌⊎◌, ⊎_elim}
+use Rattle.std.proofs.Common.{List, Some, [], ap, append_assoc, arith, get_or, length, length-append, refl, slice_get, subst, suc, sym, zero, ℕ, ◌++◌, ◌+◌, ◌<◌, ◌∙◌, ◌∷◌, ◌≡◌, ⊎_elim}
 use Rattle.std.proofs.lemmas.List.Sorted.{IsPermutation-append, IsPermutation-append_comm, IsPermutation-append_right, IsPermutation-refl, IsPermutation-trans}
 use Rattle.std.proofs.lemmas.Option.{get_or_from_slice_get}
 use Rattle.std.specs.List.Sorted.{IsPermutation}
+use Rattle.mb_rings.proofs.DistinctTables.{In-permutation, distinct-append, distinct-permutation, permutation-In}
+use Rattle.mb_rings.proofs.ListElements.{In-flat, element}
+use Rattle.mb_rings.proofs.SearchSteps.{finds-permuted}
+use Rattle.mb_rings.specs.Ring.{Ring, tables_of}
+use Rattle.mb_rings.specs.loops.Found.{AreDistinct, Exceeds, Finds, FindsMore}
 use Rattle.mb_tables.proofs.ListLaws.{In-cases, In-left, place-within}
-use Rattle.mb_tables.specs.Counts.{AreCounts}
 use Rattle.mb_tables.specs.Lists.{In}
 use Rattle.mb_walk.proofs.DealSteps.{kept-at}
-use Rattle.mb_walk.proofs.DistinctTables.{In-permutation, distinct-append, distinct-permutation, permutation-In}
 use Rattle.mb_walk.proofs.OwnedParts.{In-part, distinct-parts, part-In}
-use Rattle.mb_walk.proofs.RoundSteps.{In-flat, element, flat-In}
-use Rattle.mb_walk.proofs.SearchSteps.{finds-permuted}
 use Rattle.mb_walk.specs.Owned.{owner_of}
-use Rattle.mb_walk.specs.Ring.{Ring, tables_of}
 use Rattle.mb_walk.specs.declared.dealer.Dealer.{Dealer}
 use Rattle.mb_walk.specs.declared.owner.Owner.{Owner}
-use Rattle.mb_walk.specs.loops.Found.{AreDistinct, Exceeds, Finds, FindsMore}
-use Rattle.mb_walk.specs.loops.Piles.{AreDealt, AreParts, ArePiles, IsDealt, IsDealtBy, IsPart, dealt_by, joined, kept, seen_by}
+use Rattle.mb_walk.specs.loops.Piles.{AreDealt, AreParts, ArePiles, IsDealt, IsDealtBy, IsPart, joined, kept, seen_by}
 
 -- two pairs of lists, joined part by part
 crossed : (a b c d : Ring) → IsPermutation ((a ++ b) ++ (c ++ d)) ((a ++ c) ++ (b ++ d))

@@ -1,12 +1,2 @@
-pub mod Beside
-pub mod Between
-pub mod Claimed
-pub mod Distance
-pub mod Laws
 pub mod Owned
-pub mod Ring
-pub mod Share
-pub mod ShortestPath
-pub mod Walk
-pub mod Walked
 pub mod loops

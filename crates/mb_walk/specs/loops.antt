@@ -1,11 +1,1 @@
-pub mod Found
-pub mod InTurn
-pub mod Keyed
-pub mod Needs
-pub mod Pathless
 pub mod Piles
-pub mod ReadRing
-pub mod RingList
-pub mod Rounds
-pub mod Tree
-pub mod Worked

@@ -18,12 +18,12 @@ ghost use Rattle.std.specs.Prelude.{
   true,
   ℕ,
 };
+ghost use Rattle.mb_rings.specs.Share.{share_of};
+ghost use Rattle.mb_rings.specs.Walk.{most_tables};
+ghost use Rattle.mb_rings.specs.loops.Found.{IsSearchFault};
 ghost use Rattle.mb_tables.specs.Lists.{In};
 ghost use Rattle.mb_tables.specs.Step.{IsNear};
-ghost use Rattle.mb_walk.specs.Share.{share_of};
-ghost use Rattle.mb_walk.specs.Walk.{most_tables};
 ghost use Rattle.mb_walk.specs.declared.dealer.Dealer.{Dealer};
-ghost use Rattle.mb_walk.specs.loops.Found.{IsSearchFault};
 ghost use Rattle.mb_walk.specs.loops.Piles.{
   AreDealt,
   AreParts,
@@ -39,11 +39,9 @@ ghost use Rattle.mb_walk.specs.loops.Piles.{
 
 use crate::dealer::Dealer;
 use crate::dealt_steps::deal_share;
-use crate::fault::WalkFault;
 use crate::owner::Owner;
-use crate::shares::share_of;
-use crate::visited::Visited;
 use mb_outside::Gate;
+use mb_rings::{Visited, WalkFault, share_of};
 use mb_tables::{Moves, OutOfMemory, Table};
 use std::alloc::Global;
 use std::thread;

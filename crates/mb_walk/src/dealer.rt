@@ -20,7 +20,7 @@ ghost use Rattle.mb_walk.specs.Owned.{owner_of};
 ghost use Rattle.mb_walk.specs.loops.Piles.{AreParts, Deals, IsDealer, IsPut, dealt_by, kept, seen_by};
 
 use crate::owner::{Owner, owner_of};
-use crate::visited::Visited;
+use mb_rings::Visited;
 use mb_tables::{OutOfMemory, Table};
 
 /// A worker of one ring. One element holds all that a thread changes.

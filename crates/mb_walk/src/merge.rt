@@ -1,7 +1,7 @@
 //! An owner takes over the piles that fall to it.
 
 ghost use Rattle.std.specs.Prelude.{◌≡◌, false};
-ghost use Rattle.mb_walk.specs.loops.Found.{FindsMore};
+ghost use Rattle.mb_rings.specs.loops.Found.{FindsMore};
 ghost use Rattle.mb_walk.specs.loops.Piles.{IsDealt, IsInPile, Merges};
 
 use crate::dealer::Dealer;

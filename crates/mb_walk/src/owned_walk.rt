@@ -2,15 +2,14 @@
 
 ghost use Rattle.std.specs.Prelude.{◌≡◌, ◌<◌, ◌≤◌, ◌^◌, All, IfOk, None, length};
 ghost use Rattle.mb_matrix.specs.Matrix.{IsMove, margins_of};
+ghost use Rattle.mb_rings.specs.Walk.{most_tables, walk_cause, walk_of};
 ghost use Rattle.mb_tables.specs.Answers.{Gives};
-ghost use Rattle.mb_walk.specs.Walk.{most_tables, walk_cause, walk_of};
 
-use crate::fault::WalkFault;
 use crate::owner::open_owners;
 use crate::piles::next_by_piles;
-use crate::rings::Rings;
 use mb_matrix::Matrix;
 use mb_outside::Gate;
+use mb_rings::{Rings, WalkFault};
 use mb_tables::{Moves, Table};
 use std::alloc::Global;
 use std::thread::Threads;

@@ -5,7 +5,7 @@ ghost use Rattle.std.specs.Prelude.{◌<◌, ◌∷◌, ◌≡◌, ◌≤◌, If
 ghost use Rattle.mb_walk.specs.Owned.{mixed, owner_of};
 ghost use Rattle.mb_walk.specs.loops.Piles.{AreParts, kept, seen_by};
 
-use crate::visited::Visited;
+use mb_rings::Visited;
 use mb_tables::{OutOfMemory, Table};
 use std::alloc::Global;
 

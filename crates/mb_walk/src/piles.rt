@@ -17,12 +17,12 @@ ghost use Rattle.std.specs.Prelude.{
   ℕ,
 };
 ghost use Rattle.mb_matrix.specs.Ascending.{Ascends};
+ghost use Rattle.mb_rings.specs.Ring.{tables_of};
+ghost use Rattle.mb_rings.specs.Walk.{most_tables};
+ghost use Rattle.mb_rings.specs.loops.Found.{Finds, IsSearchFault};
 ghost use Rattle.mb_tables.specs.Lists.{In};
 ghost use Rattle.mb_tables.specs.Step.{IsNear};
-ghost use Rattle.mb_walk.specs.Ring.{tables_of};
-ghost use Rattle.mb_walk.specs.Walk.{most_tables};
 ghost use Rattle.mb_walk.specs.declared.owner.Owner.{Owner};
-ghost use Rattle.mb_walk.specs.loops.Found.{Finds, IsSearchFault};
 ghost use Rattle.mb_walk.specs.loops.Piles.{
   AreParts,
   ArePiles,
@@ -36,10 +36,10 @@ ghost use Rattle.mb_walk.specs.loops.Piles.{
 
 use crate::deal_ring::deal_ring;
 use crate::dealer::Dealer;
-use crate::fault::WalkFault;
 use crate::merge::merge;
 use crate::owner::Owner;
 use mb_outside::Gate;
+use mb_rings::WalkFault;
 use mb_tables::{Moves, OutOfMemory, Table};
 use std::alloc::Global;
 use std::thread;

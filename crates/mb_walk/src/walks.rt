@@ -5,18 +5,17 @@ ghost use Rattle.std.specs.Prelude.{◌≡◌, ◌<◌, ◌≤◌, ◌^◌, All,
 ghost use Rattle.mb_claims.specs.Limits.{most_words};
 ghost use Rattle.mb_matrix.specs.Key.{digits_of, key_count};
 ghost use Rattle.mb_matrix.specs.Matrix.{IsMove, margins_of};
+ghost use Rattle.mb_rings.specs.Walk.{most_tables, walk_cause, walk_of};
+ghost use Rattle.mb_rings.specs.Walked.{AreClaims};
 ghost use Rattle.mb_tables.specs.Answers.{Gives};
-ghost use Rattle.mb_walk.specs.Walk.{most_tables, walk_cause, walk_of};
-ghost use Rattle.mb_walk.specs.Walked.{AreClaims};
 
 use crate::breadth_first::walk_alone;
-use crate::fault::WalkFault;
-use crate::keyed_walk::walk_on;
 use crate::owned_walk::walk_by_tables;
-use crate::rings::Rings;
 use mb_claims::Shards;
+use mb_keyed::walk_on;
 use mb_matrix::{Digit, Keys, Matrix, Peel};
 use mb_outside::Gate;
+use mb_rings::{Rings, WalkFault};
 use mb_tables::{Moves, OutOfMemory, Table};
 use std::alloc::Global;
 use std::thread::Threads;

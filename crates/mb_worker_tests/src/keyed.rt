@@ -11,11 +11,12 @@ use crate::models::{
 };
 use mb_certificate::Certificate;
 use mb_claims::{Claim, Pass, Root, Shards};
+use mb_keyed::walk_on;
 use mb_matrix::{Keys, Matrix, Peel};
 use mb_order::Order;
 use mb_outside::NoGate;
+use mb_rings::Rings;
 use mb_tables::Table;
-use mb_walk::{Rings, walk_on};
 use std::alloc::Global;
 use std::test::Fail;
 use std::thread::Threads;

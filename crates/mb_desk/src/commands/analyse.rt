@@ -17,8 +17,8 @@ ghost use Rattle.mb_desk.specs.Decision.{DoesRows, Follows, blames, stop_cause};
 ghost use Rattle.mb_desk.specs.ExactTest.{numbers_in};
 ghost use Rattle.mb_desk.specs.Needs.{RowsAlone, Touches};
 ghost use Rattle.mb_reports.specs.Report.{report_text};
+ghost use Rattle.mb_rings.specs.Walk.{most_tables};
 ghost use Rattle.mb_tables.specs.Answers.{Gives};
-ghost use Rattle.mb_walk.specs.Walk.{most_tables};
 
 use crate::commands::generate::numbers_stop;
 use crate::exact_test::{Figures, numbers};

@@ -17,8 +17,8 @@ ghost use Rattle.mb_desk.specs.GenerateCommand.{
 };
 ghost use Rattle.mb_desk.specs.Needs.{Neither, Touches};
 ghost use Rattle.mb_matrix.specs.Matrix.{fiber_of};
+ghost use Rattle.mb_rings.specs.Walk.{most_tables};
 ghost use Rattle.mb_tables.specs.Answers.{Gives};
-ghost use Rattle.mb_walk.specs.Walk.{most_tables};
 
 use crate::completing::complete_stop;
 use crate::exact_test::{Figures, NumbersFault, numbers};

@@ -15,7 +15,7 @@ ghost use Rattle.mb_desk.specs.ImportCommand.{
 ghost use Rattle.mb_desk.specs.SoundLaws.{CanBeSaid, ImportedIsSaid};
 ghost use Rattle.mb_desk.specs.declared.requests.Request.TheVariants.{Import};
 ghost use Rattle.mb_outside.specs.Told.{WhereTold};
-ghost use Rattle.mb_walk.specs.Between.{most_between};
+ghost use Rattle.mb_paths.specs.Between.{most_between};
 
 use crate::commands::basis::{basis_body, certificate_lines};
 use crate::commands::check::judge;
@@ -28,9 +28,9 @@ use crate::requests::ImportWords;
 use crate::texts::{NameWord, Word};
 use mb_certificate::Certificate;
 use mb_outside::{Files, Keeper};
+use mb_paths::{BesideFault, beside};
 use mb_registry::{Kind, Name};
 use mb_tables::Moves;
-use mb_walk::{BesideFault, beside};
 use std::alloc::Global;
 
 /// Why the work stops for the fault of moves beside a certificate.

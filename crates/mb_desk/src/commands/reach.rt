@@ -16,8 +16,9 @@ use mb_moves::Grid;
 use mb_outside::{Files, Gate};
 use mb_registry::Body;
 use mb_reports::ring_table;
+use mb_rings::{Rings, WalkFault};
 use mb_tables::Moves;
-use mb_walk::{Rings, WalkFault, walk};
+use mb_walk::walk;
 use std::alloc::{AllocError, Global};
 use std::marker::Model;
 use std::thread::Threads;
@@ -30,7 +31,7 @@ struct Reached {
 
 impl Model for Reached {
     ghost use Rattle.std.specs.Prelude.{List};
-    ghost use Rattle.mb_walk.specs.Ring.{Ring};
+    ghost use Rattle.mb_rings.specs.Ring.{Ring};
 
     ghost Value = { List Ring };
 

@@ -1,14 +1,14 @@
 -- The walk by tables: owners keep the visited tables, and workers deal new ones into piles.
 use Rattle.std.specs.List.Sorted.{IsPermutation}
 use Rattle.std.specs.Prelude.{List, Some, [], ◌∷◌, false, length, map, slice_get, ℕ, ◌≡◌, ◌≤◌, ◌⊎◌, ◌+◌, ◌<◌}
+use Rattle.mb_rings.specs.Ring.{Ring, tables_of}
+use Rattle.mb_rings.specs.loops.Found.{AreDistinct, FindsMore}
+use Rattle.mb_rings.specs.declared.fault.WalkFault.{WalkFault}
+use Rattle.mb_rings.specs.declared.fault.WalkFault.TheVariants.{OutOfMemory, TooLarge}
 use Rattle.mb_tables.specs.Counts.{AreCounts}
 use Rattle.mb_tables.specs.Lists.{In}
 use Rattle.mb_walk.specs.Owned.{owner_of}
-use Rattle.mb_walk.specs.Ring.{Ring, tables_of}
-use Rattle.mb_walk.specs.loops.Found.{AreDistinct, FindsMore}
 use Rattle.mb_walk.specs.declared.dealer.Dealer.{Dealer}
-use Rattle.mb_walk.specs.declared.fault.WalkFault.{WalkFault}
-use Rattle.mb_walk.specs.declared.fault.WalkFault.TheVariants.{OutOfMemory, TooLarge}
 use Rattle.mb_walk.specs.declared.owner.Owner.{Owner}
 
 -- of n parts, the tables of part j: each stands there once, and has this owner

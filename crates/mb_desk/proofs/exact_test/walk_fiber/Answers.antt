@@ -1,9 +1,9 @@
 -- A walk of the fiber is within the limit exactly where the fiber is.
 use Rattle.std.proofs.Common.{Err, rules, ◌≡◌}
 use Rattle.mb_desk.proofs.FiberTests.{passed, walked}
-use Rattle.mb_walk.specs.Walk.{walk_of}
-use Rattle.mb_walk.specs.declared.fault.WalkFault.TheVariants.{TooLarge}
 use Rattle.mb_desk.proofs.exact_test.walk_fiber.Goals as goal
+use Rattle.mb_rings.specs.Walk.{walk_of}
+use Rattle.mb_rings.specs.declared.fault.WalkFault.TheVariants.{TooLarge}
 
 pub returns-in-Ok-clause-few : goal.returns-in-Ok-clause-few
 returns-in-Ok-clause-few g c =

@@ -2,14 +2,14 @@ use Rattle.std.proofs.Common.{Global, List, Ok, Vec, [], ap, arith, length, subs
 use Rattle.std.proofs.lemmas.List.{map-append}
 use Rattle.std.specs.List.Sorted.{IsPermutation}
 use Rattle.mb_matrix.specs.Matrix.{fiber_of}
+use Rattle.mb_rings.proofs.FiberSteps.{fiber-only, fiber-walkable}
+use Rattle.mb_rings.proofs.Walking.{IsWalked, distance-falls, no-length, ring-fiber, ring-known, some-length, under-limit, walked-end, walked-few, walked-over, walked-start, walked-step, walked-total}
+use Rattle.mb_rings.specs.loops.Found.{Finds, IsSearchFault}
+use Rattle.mb_rings.specs.Walk.{walk_cause, walk_of, within_limit}
+use Rattle.mb_rings.specs.Walked.{Walked}
+use Rattle.mb_rings.specs.loops.RingList.{listed}
 use Rattle.mb_tables.specs.Lists.{In}
 use Rattle.mb_tables.proofs.HandedOn.{gives-handed_on}
-use Rattle.mb_walk.proofs.FiberSteps.{fiber-only, fiber-walkable}
-use Rattle.mb_walk.proofs.Walking.{IsWalked, distance-falls, no-length, ring-fiber, ring-known, some-length, under-limit, walked-end, walked-few, walked-over, walked-start, walked-step, walked-total}
-use Rattle.mb_walk.specs.loops.Found.{Finds, IsSearchFault}
-use Rattle.mb_walk.specs.Walk.{walk_cause, walk_of, within_limit}
-use Rattle.mb_walk.specs.Walked.{Walked}
-use Rattle.mb_walk.specs.loops.RingList.{listed}
 use Rattle.mb_tables.specs.Step.{IsNear}
 use Rattle.mb_walk.proofs.breadth_first.walk_alone.Given as given
 use Rattle.mb_walk.proofs.breadth_first.walk_alone.Goals as goal

@@ -1,6 +1,6 @@
 use Rattle.mb_matrix.specs.Matrix.{fiber_of}
-use Rattle.mb_walk.proofs.Walking.{IsWalked, distance}
-use Rattle.mb_walk.specs.loops.RingList.{listed}
+use Rattle.mb_rings.proofs.Walking.{IsWalked, distance}
+use Rattle.mb_rings.specs.loops.RingList.{listed}
 use Rattle.mb_walk.proofs.breadth_first.walk_alone.Given as goal
 
 abbrev pub invariant-loop-alloc : goal.invariant-loop-alloc

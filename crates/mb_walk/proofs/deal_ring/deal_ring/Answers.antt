@@ -1,12 +1,12 @@
 use Rattle.std.proofs.Common.{All, List, ap, arith, drop, length, subst, sym, take, ◌++◌, ◌∙◌, ◌≡◌}
 use Rattle.std.proofs.Math.Seq.{take-append_seam}
 use Rattle.std.specs.List.{refill}
+use Rattle.mb_rings.specs.loops.Found.{IsSearchFault}
 use Rattle.mb_tables.proofs.HandedOn.{handed_on}
 use Rattle.mb_tables.specs.Step.{IsNear}
 use Rattle.mb_walk.proofs.DealtRings.{dealt-all, dealt-over}
 use Rattle.mb_walk.proofs.OwnedParts.{distinct-parts}
 use Rattle.mb_walk.specs.declared.dealer.Dealer.{Dealer}
-use Rattle.mb_walk.specs.loops.Found.{IsSearchFault}
 use Rattle.mb_walk.specs.loops.Piles.{AreDealt, IsOver, IsWhole, kept, seen_by}
 use Rattle.mb_walk.proofs.deal_ring.deal_ring.Goals as goal
 

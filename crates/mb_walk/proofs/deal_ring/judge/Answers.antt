@@ -1,5 +1,5 @@
 use Rattle.std.proofs.Common.{arith, refl}
-use Rattle.mb_walk.proofs.PlacesBelow.{get-there}
+use Rattle.mb_rings.proofs.PlacesBelow.{get-there}
 use Rattle.mb_walk.proofs.deal_ring.judge.Goals as goal
 
 pub returns-then-dealer-room-clause-refused : goal.returns-then-dealer-room-clause-refused

@@ -1,9 +1,9 @@
 use Rattle.std.proofs.Common.{false, length, subst, sym, true, ◌∙◌, ◌≡◌}
+use Rattle.mb_rings.proofs.RingShares.{In-share}
+use Rattle.mb_rings.specs.Share.{share_of}
 use Rattle.mb_tables.specs.Lists.{In}
 use Rattle.mb_tables.specs.Step.{IsNear}
 use Rattle.mb_walk.proofs.DealtRings.{dealer-none, has-dealt, has-none, has-same, idle-none, no-share}
-use Rattle.mb_walk.proofs.ShareSteps.{In-share}
-use Rattle.mb_walk.specs.Share.{share_of}
 use Rattle.mb_walk.specs.loops.Piles.{HasDealt, IsDealer, seen_by}
 use Rattle.mb_walk.proofs.deal_ring.work.Goals as goal
 use Rattle.mb_walk.proofs.deal_ring.work.Goals.{else-not-is_empty-via-then-not-is_empty+else-lay_out, else-not-is_empty-via-else-not-is_empty}

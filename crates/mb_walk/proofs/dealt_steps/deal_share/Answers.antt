@@ -1,7 +1,7 @@
 use Rattle.std.proofs.Common.{arith}
+use Rattle.mb_rings.proofs.PlacesBelow.{get-there}
 use Rattle.mb_tables.proofs.ListLaws.{place-in}
 use Rattle.mb_walk.proofs.DealSteps.{dealt-no_table, dealt-place, dealt-share}
-use Rattle.mb_walk.proofs.PlacesBelow.{get-there}
 use Rattle.mb_walk.specs.loops.Piles.{seen_by}
 use Rattle.mb_walk.proofs.dealt_steps.deal_share.Goals as goal
 

@@ -1,5 +1,5 @@
 use Rattle.std.proofs.Common.{length, ◌≡◌}
-use Rattle.mb_walk.proofs.PlacesBelow.{NearBelow}
+use Rattle.mb_rings.proofs.PlacesBelow.{NearBelow}
 use Rattle.mb_walk.specs.loops.Piles.{Deals, IsDealer, seen_by}
 use Rattle.mb_walk.proofs.dealt_steps.deal_share.Given as goal
 

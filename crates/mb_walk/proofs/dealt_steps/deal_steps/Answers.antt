@@ -1,8 +1,8 @@
 use Rattle.std.proofs.Common.{arith, refl, subst, ◌∙◌}
+use Rattle.mb_rings.proofs.PlacesBelow.{get-there}
 use Rattle.mb_tables.specs.Step.{Moved}
 use Rattle.mb_tables.specs.declared.sign.Sign.TheVariants.{Minus, Plus}
 use Rattle.mb_walk.proofs.DealSteps.{dealt-all, dealt-no_move, dealt-step}
-use Rattle.mb_walk.proofs.PlacesBelow.{get-there}
 use Rattle.mb_walk.specs.loops.Piles.{Deals, seen_by}
 use Rattle.mb_walk.proofs.dealt_steps.deal_steps.Goals as goal
 

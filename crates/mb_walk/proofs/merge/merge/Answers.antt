@@ -1,6 +1,6 @@
 use Rattle.std.proofs.Common.{arith}
+use Rattle.mb_rings.proofs.PlacesBelow.{get-there}
 use Rattle.mb_walk.proofs.MergeSteps.{piled-all, piled-more, piled-none}
-use Rattle.mb_walk.proofs.PlacesBelow.{get-there}
 use Rattle.mb_walk.proofs.merge.merge.Goals as goal
 
 pub loop-dealer-init : goal.loop-dealer-init

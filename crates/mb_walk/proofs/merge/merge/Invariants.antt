@@ -1,6 +1,6 @@
 use Rattle.std.proofs.Common.{[], false, ◌≡◌}
+use Rattle.mb_rings.specs.loops.Found.{FindsMore}
 use Rattle.mb_walk.proofs.MergeSteps.{InPilesBelow}
-use Rattle.mb_walk.specs.loops.Found.{FindsMore}
 use Rattle.mb_walk.proofs.merge.merge.Given as goal
 
 abbrev pub invariant-loop-dealer : goal.invariant-loop-dealer

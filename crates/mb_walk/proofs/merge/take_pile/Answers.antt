@@ -1,6 +1,6 @@
 use Rattle.std.proofs.Common.{List, ap, length}
+use Rattle.mb_rings.specs.Ring.{Ring}
 use Rattle.mb_walk.proofs.MergeSteps.{no-pile}
-use Rattle.mb_walk.specs.Ring.{Ring}
 use Rattle.mb_walk.proofs.merge.take_pile.Goals as goal
 
 pub returns-in_default : goal.returns-in_default

@@ -4,17 +4,17 @@ use Rattle.std.proofs.lemmas.List.{map-append}
 use Rattle.std.proofs.lemmas.List.Sorted.{length_permutation}
 use Rattle.std.specs.List.{refill}
 use Rattle.mb_matrix.specs.Matrix.{fiber_of}
+use Rattle.mb_rings.proofs.FiberSteps.{fiber-only, fiber-walkable}
+use Rattle.mb_rings.proofs.Walking.{IsWalked, distance, distance-falls, no-length, ring-fiber, ring-known, some-length, under-limit, walked-end, walked-few, walked-over, walked-start, walked-step, walked-total}
+use Rattle.mb_rings.specs.loops.Found.{Finds, IsSearchFault}
+use Rattle.mb_rings.specs.loops.RingList.{listed}
+use Rattle.mb_rings.specs.Walk.{walk_cause, walk_of, within_limit}
+use Rattle.mb_rings.specs.Walked.{Walked}
 use Rattle.mb_tables.specs.Lists.{In}
 use Rattle.mb_tables.specs.Step.{IsNear}
 use Rattle.mb_tables.proofs.HandedOn.{gives-handed_on}
-use Rattle.mb_walk.proofs.FiberSteps.{fiber-only, fiber-walkable}
-use Rattle.mb_walk.proofs.Walking.{IsWalked, distance, distance-falls, no-length, ring-fiber, ring-known, some-length, under-limit, walked-end, walked-few, walked-over, walked-start, walked-step, walked-total}
 use Rattle.mb_walk.specs.declared.owner.Owner.{Owner}
-use Rattle.mb_walk.specs.loops.Found.{Finds, IsSearchFault}
 use Rattle.mb_walk.specs.loops.Piles.{AreParts, kept, seen_by}
-use Rattle.mb_walk.specs.loops.RingList.{listed}
-use Rattle.mb_walk.specs.Walk.{walk_cause, walk_of, within_limit}
-use Rattle.mb_walk.specs.Walked.{Walked}
 use Rattle.mb_walk.proofs.owned_walk.walk_by_tables.Given as given
 use Rattle.mb_walk.proofs.owned_walk.walk_by_tables.Goals as goal
 

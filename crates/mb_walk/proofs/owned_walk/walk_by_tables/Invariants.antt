@@ -1,8 +1,8 @@
 use Rattle.std.proofs.Common.{length, ◌≡◌}
 use Rattle.mb_matrix.specs.Matrix.{fiber_of}
-use Rattle.mb_walk.proofs.Walking.{IsWalked, distance}
+use Rattle.mb_rings.proofs.Walking.{IsWalked, distance}
+use Rattle.mb_rings.specs.loops.RingList.{listed}
 use Rattle.mb_walk.specs.loops.Piles.{AreParts, kept, seen_by}
-use Rattle.mb_walk.specs.loops.RingList.{listed}
 use Rattle.mb_walk.proofs.owned_walk.walk_by_tables.Given as goal
 
 abbrev pub invariant-loop-alloc : goal.invariant-loop-alloc

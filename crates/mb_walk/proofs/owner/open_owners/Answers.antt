@@ -1,4 +1,3 @@
-use Rattle.std.proofs.Common.{rules}
 use Rattle.mb_walk.proofs.OpenOwners.{open-owner}
 use Rattle.mb_walk.proofs.owner.open_owners.Goals as goal
 

@@ -1,5 +1,5 @@
 use Rattle.std.proofs.Common.{arith, refl, ◌∙◌}
-use Rattle.mb_walk.specs.Ring.{tables_of}
+use Rattle.mb_rings.specs.Ring.{tables_of}
 use Rattle.mb_walk.specs.loops.Piles.{joined}
 use Rattle.mb_walk.proofs.OwnerLists.{join-more, kept-taken}
 use Rattle.mb_walk.proofs.piles.join.Goals as goal

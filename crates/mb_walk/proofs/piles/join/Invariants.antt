@@ -1,5 +1,5 @@
 use Rattle.std.proofs.Common.{drop, ◌++◌, ◌≡◌}
-use Rattle.mb_walk.specs.Ring.{tables_of}
+use Rattle.mb_rings.specs.Ring.{tables_of}
 use Rattle.mb_walk.specs.loops.Piles.{joined, kept}
 use Rattle.mb_walk.proofs.piles.join.Given as goal
 

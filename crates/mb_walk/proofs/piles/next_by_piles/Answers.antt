@@ -1,10 +1,10 @@
 use Rattle.std.proofs.Common.{arith, length, refl, subst, sym}
+use Rattle.mb_rings.proofs.AscendingTables.{ascends-sorted}
+use Rattle.mb_rings.specs.loops.Found.{Finds}
 use Rattle.mb_tables.specs.Step.{IsNear}
-use Rattle.mb_walk.proofs.AscendingTables.{ascends-sorted}
 use Rattle.mb_walk.proofs.OwnedParts.{distinct-parts}
 use Rattle.mb_walk.proofs.TakenOver.{dealt-found, found-over}
-use Rattle.mb_walk.specs.loops.Found.{Finds}
-use Rattle.mb_walk.specs.loops.Piles.{AreDealt, ArePiles, IsDealtBy, kept, seen_by}
+use Rattle.mb_walk.specs.loops.Piles.{ArePiles, IsDealtBy, kept, seen_by}
 use Rattle.mb_walk.proofs.piles.next_by_piles.Given as given
 use Rattle.mb_walk.proofs.piles.next_by_piles.Goals as goal
 

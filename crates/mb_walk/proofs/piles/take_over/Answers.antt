@@ -1,8 +1,8 @@
-use Rattle.std.proofs.Common.{arith, false, get_or, length, refl, subst, sym, ℕ, ◌<◌, ◌≡◌, []}
+use Rattle.std.proofs.Common.{arith, get_or, length, refl, subst, sym, ℕ, ◌<◌, []}
+use Rattle.mb_rings.specs.Ring.{tables_of}
+use Rattle.mb_rings.specs.loops.Found.{Finds, FindsMore}
 use Rattle.mb_walk.proofs.TakenOver.{kept-parts, taken-over}
-use Rattle.mb_walk.specs.Ring.{tables_of}
 use Rattle.mb_walk.specs.declared.owner.Owner.{Owner}
-use Rattle.mb_walk.specs.loops.Found.{Finds, FindsMore}
 use Rattle.mb_walk.specs.loops.Piles.{AreParts, IsDealt, IsDealtBy, joined, seen_by}
 use Rattle.mb_walk.proofs.piles.take_over.Given as given
 use Rattle.mb_walk.proofs.piles.take_over.Goals as goal

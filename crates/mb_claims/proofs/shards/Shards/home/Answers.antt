@@ -8,6 +8,7 @@ returns-clause-ends c =
     let some = c.self.invariant.fit.some in
     let low =
     mod_below c.args.key c.len-shards.result (omega (arith, some, c.len-shards.ensures)) in
-    home_ends c.self.invariant (c.args.key % c.len-shards.result) c.index.result.now
-    c.index-words.result.now (omega (arith, low, c.len-shards.ensures)) c.index.ensures
+    home_ends c.self.invariant c.divided-shard.result.0 c.index.result.now
+    c.index-words.result.now
+    (omega (arith, low, c.len-shards.ensures, c.divided-shard.ensures.remainder)) c.index.ensures
     c.index-words.ensures

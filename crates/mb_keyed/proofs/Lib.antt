@@ -1,0 +1,15 @@
+pub mod CacheSteps
+pub mod ClaimSteps
+pub mod FirstClaims
+pub mod FoundSteps
+pub mod GatherSteps
+pub mod KeyOrders
+pub mod KeyedClaims
+pub mod KeyedTables
+pub mod KeyedWalks
+pub mod NeedSteps
+pub mod OpenSteps
+pub mod RingParts
+pub mod RoundSteps
+pub mod ShareSteps
+pub mod StepLists

@@ -1,0 +1,5 @@
+pub mod Keyed
+pub mod Needs
+pub mod ReadRing
+pub mod Rounds
+pub mod Worked

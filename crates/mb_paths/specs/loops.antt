@@ -1,0 +1,2 @@
+pub mod Pathless
+pub mod Tree

@@ -1,0 +1,16 @@
+pub mod AscendingTables
+pub mod DistinctTables
+pub mod Expanding
+pub mod FiberSteps
+pub mod ListElements
+pub mod PathOrder
+pub mod PlacesBelow
+pub mod Reaching
+pub mod RingDistances
+pub mod RingEnds
+pub mod RingShares
+pub mod RingSteps
+pub mod SearchSteps
+pub mod TakenTables
+pub mod TurnSteps
+pub mod Walking

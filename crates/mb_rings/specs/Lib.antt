@@ -1,0 +1,9 @@
+pub mod Claimed
+pub mod Distance
+pub mod Laws
+pub mod Ring
+pub mod Share
+pub mod ShortestPath
+pub mod Walk
+pub mod Walked
+pub mod loops

@@ -1,0 +1,4 @@
+pub mod Before
+pub mod Found
+pub mod InTurn
+pub mod RingList

@@ -1,5 +1,0 @@
-use Rattle.std.proofs.Common.{take, ◌≡◌}
-use Rattle.mb_walk.proofs.copies.copy_starts.Given as goal
-
-abbrev pub invariant-loop-start : goal.invariant-loop-start
-invariant-loop-start l = l.copy.items ≡ take l.start-index l.starts

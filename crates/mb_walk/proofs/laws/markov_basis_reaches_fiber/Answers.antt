@@ -1,5 +1,0 @@
-use Rattle.mb_walk.proofs.Reaching.{reaches_fiber}
-use Rattle.mb_walk.proofs.laws.markov_basis_reaches_fiber.Goals as goal
-
-pub returns : goal.returns
-returns c = reaches_fiber

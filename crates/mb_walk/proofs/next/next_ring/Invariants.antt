@@ -1,9 +1,0 @@
-use Rattle.std.proofs.Common.{[]}
-use Rattle.mb_walk.proofs.PlacesBelow.{NearBelow}
-use Rattle.mb_walk.proofs.SearchSteps.{IsSearching}
-use Rattle.mb_walk.proofs.next.next_ring.Given as goal
-
-abbrev pub invariant-loop-place : goal.invariant-loop-place
-invariant-loop-place g l =
-    IsSearching (NearBelow l.moves.rows l.ring l.place) l.limit l.initial.visited l.visited []
-    l.next.items

@@ -1,6 +1,0 @@
-use Rattle.mb_walk.proofs.StepLists.{AreStepsTo}
-use Rattle.mb_walk.proofs.step_list.steps_of.Given as goal
-
-abbrev pub invariant-loop-z : goal.invariant-loop-z
-invariant-loop-z l =
-    AreStepsTo l.keys l.moves.width l.z-items l.list.items l.needs.items l.z-index

@@ -1,7 +1,0 @@
-use Rattle.mb_walk.proofs.SearchSteps.{met}
-use Rattle.mb_walk.proofs.visited.Visited.contains.Goals as goal
-
-pub returns : goal.returns
-returns c =
-    met c.contains.result c.self.inside.tables.keys c.args.self.now c.args.table.now c.self.view_is
-    c.contains.ensures
