@@ -2,10 +2,10 @@
 //! tests/outside/exact_model.
 
 use crate::fiber_cases::CASES;
-use crate::models::counts_of;
 use crate::numbers::{Sample, numbers_of, total};
 use mb_desk::{Figures, NumbersFault};
 use mb_order::Order;
+use mb_samples::counts_of;
 use std::alloc::Global;
 use std::test::Fail;
 use std::thread::Threads;

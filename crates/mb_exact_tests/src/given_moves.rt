@@ -1,11 +1,12 @@
 //! Moves beside the certificate of a model.
 
 use crate::beside_bases::BASES;
-use crate::models::{certificate_of, matrix_of, moves_of};
+use crate::models::moves_of;
 use mb_certificate::{Certificate, write};
 use mb_checker::{Verdict, check};
 use mb_order::Order;
 use mb_paths::{BesideFault, beside};
+use mb_samples::{certificate_of, matrix_of};
 use mb_tables::{Moves, Table};
 use std::alloc::Global;
 use std::test::Fail;

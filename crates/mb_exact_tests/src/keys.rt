@@ -1,11 +1,10 @@
 //! The peel of a matrix, and keys and ranks of the tables of small fibers.
 
-ghost use Rattle.std.specs.Prelude.{◌≡◌, IfOk, length};
-ghost use Rattle.mb_matrix.specs.Key.{Suits, digits_of};
-ghost use Rattle.mb_matrix.specs.Matrix.{margins_of};
+ghost use Rattle.std.specs.Prelude.{◌≡◌, length};
 
-use crate::models::{matrix_of, moves_of, table_of};
+use crate::models::moves_of;
 use mb_matrix::{Keys, Matrix, Peel, Peeled, moved_key};
+use mb_samples::{keys_for, matrix_of, table_of};
 use mb_tables::{Move, Moves, Sign, Table};
 use std::alloc::Global;
 use std::test::Fail;
@@ -60,22 +59,6 @@ fn digits_of(alloc: Global, matrix: &Matrix, margins: &[u64]) -> Result<String, 
     match Keys::of(alloc, matrix, &peel, margins)? {
         None => Ok(format!(in alloc; "none")?),
         Some(keys) => text_of_digits(alloc, &keys),
-    }
-}
-
-/// The keys of the fiber of a table.
-fn keys_for(alloc: Global, matrix: &Matrix, table: &Table) -> Result<Keys, Fail>
-    requires { length table.now ≡ length matrix.now.columns }
-    ensures digits { IfOk result (λ keys.
-        keys ≡ digits_of matrix.now (margins_of matrix.now table.now)) }
-    ensures suits { IfOk result (λ keys. Suits keys table.now) }
-{
-    let _cells = matrix.cols();
-    let peel = Peel::of(alloc, matrix)?;
-    let margins = matrix.margins(alloc, table)?;
-    match Keys::of(alloc, matrix, &peel, margins.as_slice())? {
-        None => Err(Fail::from("no keys")),
-        Some(keys) => Ok(keys),
     }
 }
 

@@ -3,12 +3,12 @@
 ghost use Rattle.std.specs.Prelude.{◌≡◌, IfOk};
 ghost use Rattle.mb_matrix.specs.Measure.{IsMeasureOf};
 
-use crate::models::{certificate_of, has_small_margins, matrix_of};
 use mb_certificate::{Certificate, Reason, read};
 use mb_desk::{Figures, NumbersFault, numbers};
 use mb_matrix::{Matrix, Measure, Scale};
 use mb_order::Order;
 use mb_outside::NoGate;
+use mb_samples::{certificate_of, has_small_margins, matrix_of};
 use mb_tables::Table;
 use std::alloc::Global;
 use std::test::Fail;

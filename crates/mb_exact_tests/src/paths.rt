@@ -1,15 +1,12 @@
 //! Least paths between two tables by moves that are given, beside the plain model in
 //! tests/outside/given_moves_model.
 
-ghost use Rattle.std.specs.Prelude.{◌≡◌, ◌<◌, ◌^◌, All, length};
-ghost use Rattle.std.specs.Bool.{OnTrue};
-ghost use Rattle.mb_matrix.specs.Matrix.{IsMove};
-
 use crate::between_paths::CASES;
-use crate::models::{has_small_margins, matrix_of, moves_of, table_of};
+use crate::models::moves_of;
 use mb_matrix::Matrix;
 use mb_paths::{Between, between};
 use mb_rings::WalkFault;
+use mb_samples::{are_moves, has_small_margins, matrix_of, table_of};
 use mb_tables::{Moves, Table};
 use std::alloc::Global;
 use std::test::Fail;
@@ -28,20 +25,6 @@ pub(crate) struct Case {
     pub(crate) seen: u32,
     /// `steps` and the signed numbers of the path, or `apart`.
     pub(crate) answer: &'static str,
-}
-
-/// Whether all margins of all moves are 0.
-fn are_moves(matrix: &Matrix, moves: &Moves) -> bool
-    requires { moves.now.width ≡ length matrix.now.columns }
-    ensures { OnTrue result (All (IsMove matrix.now) moves.now.rows) }
-{
-    let _moves = moves.len();
-    for (_k, z) in moves.as_slice().iter().enumerate() {
-        if !matrix.is_move(z) {
-            return false;
-        }
-    }
-    true
 }
 
 /// What is answered of two tables.

@@ -2,8 +2,8 @@
 use Rattle.std.proofs.Common.{List, [], ap, false, inl, inr, refl, reverse, subst, sym, ℕ, ◌++◌, ◌∙◌, ◌∷◌, ◌≡◌, ◌⊎◌, ⊎_elim}
 use Rattle.std.proofs.lemmas.List.{reverse-append}
 use Rattle.mb_claims.specs.Notes.{IsNoted, Keeps}
-use Rattle.mb_keyed.specs.loops.Worked.{Claims}
 use Rattle.mb_keyed.specs.declared.worker.Worker.{Worker}
+use Rattle.mb_keyed.specs.loops.Worked.{Claims, keys_in}
 use Rattle.mb_tables.specs.Lists.{In}
 
 -- a list with one more in front
@@ -26,7 +26,7 @@ pub claims-won : (key : ℕ) (before after : Worker) →
     IsNoted after.pass.knows.notes key →
     (after.is_left ≡ before.is_left) →
     (after.is_short ≡ false → before.is_short ≡ false) →
-    (after.is_short ≡ false → after.found.items ≡ before.found.items ++ key ∷ []) →
+    (after.is_short ≡ false → keys_in after.found.items ≡ keys_in before.found.items ++ key ∷ []) →
     Claims (λ k. k ≡ key) before after
 claims-won key before after number keeps won noted left short found = record {
   number = number;
@@ -38,7 +38,8 @@ claims-won key before after number keeps won noted left short found = record {
   );
   listed = λ e. (
     short e,
-    λ was. reverse-push before.found.items after.found.items key after.pass.knows.won
+    λ was. reverse-push (keys_in before.found.items) (keys_in after.found.items) key
+        after.pass.knows.won
         before.pass.knows.won (found e) won was,
   );
 }
@@ -52,18 +53,6 @@ claims-none worker IsSought none = record {
   won = λ k i. inl i;
   told = λ e. (e, λ k s. absurd (none k s));
   listed = λ e. (e, λ was. was);
-}
-
--- nothing is claimed, and what is sought is left
-pub claims-left : (before after : Worker) (IsSought : ℕ → Type 0) → after.pass ≡ before.pass →
-    after.found ≡ before.found → after.is_short ≡ before.is_short →
-    (after.is_left ≡ false → ⊥) → Claims IsSought before after
-claims-left before after IsSought pass found short left = record {
-  number = ap (λ p. p.knows.number) pass;
-  notes = λ n i. subst (λ p. In n p.knows.notes) (sym pass) i;
-  won = λ k i. inl (subst (λ p. In k p.knows.won) pass i);
-  told = λ e. absurd (left e);
-  listed = λ e. (sym short ∙ e, λ was. ap (λ f. reverse f.items) found ∙ was ∙ ap (λ p. p.knows.won) (sym pass));
 }
 
 -- one claim after another

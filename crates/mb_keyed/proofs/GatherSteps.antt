@@ -1,15 +1,16 @@
 -- The passes of a round are gathered, one after another from the last on.
-use Rattle.std.proofs.Common.{All, Bool, List, [], ap, append-nil, append_assoc, arith, cond, eqb, false, inl, inr, length, not, refl, reverse, subst, sym, true, ℕ, ◌++◌, ◌||◌, ◌∙◌, ◌∷◌, ◌≡◌, ◌⊎◌, ⊎_elim}
+use Rattle.std.proofs.Common.{All, Bool, List, [], ap, append-nil, append_assoc, arith, cond, eqb, false, inl, inr, length, not, refl, reverse, subst, sym, true, ℕ, ◌++◌, ◌||◌, ◌<◌, ◌∙◌, ◌∷◌, ◌≡◌, ◌⊎◌, ⊎_elim}
 use Rattle.std.proofs.lemmas.Bool.{both_ways, eq-eqb, not-true, or_parts}
-use Rattle.std.proofs.lemmas.List.{reverse-append, reverse-reverse}
 use Rattle.std.proofs.lemmas.List.Elements.{All-cons, All-nil}
+use Rattle.std.proofs.lemmas.List.{reverse-append, reverse-reverse}
 use Rattle.std.specs.List.{filter}
 use Rattle.mb_claims.specs.ClaimStep.{gathers}
+use Rattle.mb_claims.specs.Closed.{ClosesAll, IsClosed}
 use Rattle.mb_claims.specs.declared.views.RootView.{RootView}
-use Rattle.mb_keyed.specs.loops.Rounds.{IsListed}
-use Rattle.mb_keyed.specs.loops.Worked.{keys_won, notes_made, numbers}
 use Rattle.mb_keyed.specs.declared.gathered.Left.{Left}
 use Rattle.mb_keyed.specs.declared.worker.Worker.{Worker}
+use Rattle.mb_keyed.specs.loops.Rounds.{IsListed}
+use Rattle.mb_keyed.specs.loops.Worked.{keys_in, keys_won, notes_made, numbers}
 use Rattle.mb_tables.proofs.ListLaws.{In-filter_only}
 use Rattle.mb_tables.specs.Lists.{In}
 
@@ -77,7 +78,7 @@ pub gathered_more : (all left rest : List Worker) (last : Worker) (before now ne
     next ≡ gathers now last.pass.knows → IsListed last →
     after.is_left ≡ (sum.is_left || last.is_left) →
     after.is_short ≡ (sum.is_short || last.is_short) || lost →
-    (lost ≡ false → new ≡ middle ++ last.found.items) →
+    (lost ≡ false → new ≡ middle ++ keys_in last.found.items) →
     AreGathered all rest before next old new after
 gathered_more all left rest last before now next old middle new sum after lost is h e listed lefts
     shorts more =
@@ -112,7 +113,7 @@ gathered_more all left rest last before now next old middle new sum after lost i
           let outer = or_parts (sum.is_short || last.is_short) lost (sym shorts ∙ f) in
           let both = or_parts sum.is_short last.is_short outer.0 in
           more outer.1
-          ∙ list-more old middle last.found.items last.pass.knows.won (keys_won h.done)
+          ∙ list-more old middle (keys_in last.found.items) last.pass.knows.won (keys_won h.done)
           (h.found both.0) (listed both.1);
     }
 
@@ -122,11 +123,25 @@ unfolding In
 none_in [] h = refl
 none_in (x ∷ xs) h = absurd (h x (inl refl))
 
--- at the end no pass is open
-pub gathered_opened : (all : List Worker) (before now : RootView) (old new : List ℕ)
-    (left : Left) → AreGathered all [] before now old new left → now.opened ≡ []
-unfolding In
-gathered_opened all before now old new left h = none_in now.opened h.opened
+-- a list of length 0 is empty
+none_left : (workers : List Worker) → length workers ≡ 0 → workers ≡ []
+none_left [] e = refl
+none_left (w ∷ workers) e = absurd (omega arith)
+
+module _ (all rest : List Worker) (before now : RootView) (old new : List ℕ) (left : Left)
+    (none : length rest ≡ 0) (h : AreGathered all rest before now old new left) where
+  -- at the end no pass is open
+  pub gathered_opened : now.opened ≡ []
+  unfolding In
+  gathered_opened =
+      none_in now.opened
+      (λ n i. subst (λ (workers : List Worker). In n (numbers workers)) (none_left rest none)
+      (h.opened n i))
+
+  -- and the root is closed
+  pub gathered_closed : (0 < length rest) ⊎ ClosesAll now → IsClosed now
+  gathered_closed cases =
+      ⊎_elim (λ some. absurd (omega arith)) (λ closes. closes gathered_opened) cases
 
 -- and all workers are gathered
 pub gathered_all : (all : List Worker) (before now : RootView) (old new : List ℕ) (left : Left) →
@@ -142,8 +157,3 @@ gathered_all all before now old new left h = (
       (h.all_done e)),
   (λ e. h.found e ∙ ap (λ (l : List Worker). old ++ reverse (keys_won l)) (sym h.split)),
 )
-
--- a list of length 0 is empty
-pub none_left : (workers : List Worker) → length workers ≡ 0 → workers ≡ []
-none_left [] e = refl
-none_left (w ∷ workers) e = absurd (omega arith)

@@ -1,7 +1,9 @@
 -- What a worker claims of the keys of tables: of those one step from a table, and from a share.
-use Rattle.std.proofs.Common.{List, Some, arith, get_or, inl, inr, length, slice_get, subst, sym, ℕ, ℤ, ◌+◌, ◌<◌, ◌≡◌, ◌⊎◌, ⊎_elim}
+use Rattle.std.proofs.Common.{List, Some, [], take, ◌∷◌, arith, get_or, inl, inr, length, slice_get, subst, sym, ℕ, ℤ, ◌+◌, ◌<◌, ◌≡◌, ◌⊎◌, ⊎_elim}
+use Rattle.std.proofs.lemmas.List.{take_more}
 use Rattle.std.proofs.lemmas.Option.{slice_get-get_or}
 use Rattle.mb_keyed.proofs.ClaimSteps.{claims-none, claims-same, claims-then}
+use Rattle.mb_keyed.proofs.NearKeys.{keys-both}
 use Rattle.mb_keyed.specs.loops.Needs.{AreSteps, IsStepOf}
 use Rattle.mb_keyed.specs.loops.Worked.{Claims, HasKeyedSteps, IsKeyed}
 use Rattle.mb_keyed.specs.declared.needs.Need.{Need}
@@ -9,11 +11,13 @@ use Rattle.mb_keyed.specs.declared.step_list.StepList.{StepList}
 use Rattle.mb_keyed.specs.declared.step_list.StepOf.{StepOf}
 use Rattle.mb_keyed.specs.declared.worker.Worker.{Worker}
 use Rattle.mb_matrix.specs.declared.digit.Digit.{Digit}
-use Rattle.mb_rings.proofs.PlacesBelow.{NearBelow, Steps, SteppedBelow, all-near, all-stepped, below-cases, below-more, below-none, some-near, some-stepped}
+use Rattle.mb_rings.proofs.PlacesBelow.{NearBelow, Steps, all-near, below-cases, below-more, below-none, some-near}
 use Rattle.mb_rings.specs.Claimed.{IsKeyOf}
 use Rattle.mb_rings.specs.Ring.{Ring}
-use Rattle.mb_tables.proofs.ListLaws.{place-within}
+use Rattle.mb_tables.proofs.ListLaws.{In-cases, In-left, In-right, place-within}
+use Rattle.mb_tables.specs.Lists.{In}
 use Rattle.mb_tables.specs.Step.{IsNear, OneApart}
+use Rattle.mb_tables.specs.Vectors.{at}
 
 -- what a step makes of a table has a key
 pub step-keyed : (digits : List Digit) (width : ℕ) (rows items : List (List ℤ)) (u : List ℕ)
@@ -60,38 +64,10 @@ module _ (digits : List Digit) where
       Claims (IsKeyOf digits P) before middle → Claims (IsKeyOf digits Q) middle after →
       Claims (IsKeyOf digits R) before after
   claims-both P Q R before middle after to from f g =
+      let same = keys-both digits P Q R to from in
       claims-same (λ k. IsKeyOf digits P k ⊎ IsKeyOf digits Q k) (IsKeyOf digits R) before after
-      (λ k. ⊎_elim
-      (λ h. (h.0, to h.0 (inl h.1), h.2))
-      (λ h. (h.0, to h.0 (inr h.1), h.2)))
-      (λ k h. ⊎_elim
-      (λ p. inl (h.0, p, h.2))
-      (λ q. inr (h.0, q, h.2))
-      (from h.0 h.1))
+      (λ k h. (same k).1 h) (λ k h. (same k).0 h)
       (claims-then (IsKeyOf digits P) (IsKeyOf digits Q) before middle after f g)
-
-  -- a move more is added and subtracted
-  pub claimed-move : (moves : List (List ℤ)) (i : ℕ) (move : List ℤ) (u : List ℕ) →
-      slice_get moves i ≡ Some move → (first second last : Worker) →
-      Claims (IsKeyOf digits (SteppedBelow moves i u)) first second →
-      Claims (IsKeyOf digits (λ v. Steps u v move)) second last →
-      Claims (IsKeyOf digits (SteppedBelow moves (i + 1) u)) first last
-  claimed-move moves i move u there first second last f g =
-      claims-both (SteppedBelow moves i u) (λ v. Steps u v move) (SteppedBelow moves (i + 1) u)
-      first second last
-      (λ v k. below-more moves i move (Steps u v) there k)
-      (λ v k. below-cases moves i move (Steps u v) there k) f g
-
-  -- all moves are tried
-  pub claimed-all : (moves items : List (List ℤ)) (i : ℕ) (u : List ℕ) (before after : Worker) →
-      items ≡ moves → i ≡ length items →
-      Claims (IsKeyOf digits (SteppedBelow items i u)) before after →
-      Claims (IsKeyOf digits (OneApart moves u)) before after
-  claimed-all moves items i u before after e end f =
-      subst (λ (list : List (List ℤ)). Claims (IsKeyOf digits (OneApart list u)) before after) e
-      (claims-of (SteppedBelow items i u) (OneApart items u) before after
-      (λ v h. some-stepped items i u v h)
-      (λ v h. subst (λ k. SteppedBelow items k u v) (sym end) (all-stepped items u v h)) f)
 
   -- a table of the ring more is expanded
   pub claimed-place : (moves : List (List ℤ)) (ring : Ring) (i : ℕ) (u : List ℕ) →
@@ -114,16 +90,24 @@ module _ (digits : List Digit) where
       (λ v h. some-near moves ring i v h)
       (λ v h. subst (λ k. NearBelow moves ring k v) (sym end) (all-near moves ring v h)) f
 
-  -- before the first move
-  pub claimed-no_move : (moves : List (List ℤ)) (u : List ℕ) (worker : Worker) →
-      Claims (IsKeyOf digits (SteppedBelow moves 0 u)) worker worker
-  claimed-no_move moves u worker =
-      claims-none worker (IsKeyOf digits (SteppedBelow moves 0 u))
-      (λ k h. below-none moves (Steps u h.0) h.1)
-
   -- before the first table
   pub claimed-no_table : (moves : List (List ℤ)) (ring : Ring) (worker : Worker) →
       Claims (IsKeyOf digits (NearBelow moves ring 0)) worker worker
   claimed-no_table moves ring worker =
       claims-none worker (IsKeyOf digits (NearBelow moves ring 0))
       (λ k h. below-none ring (λ u. OneApart moves u h.0) h.1)
+
+-- one key of a list more is claimed
+pub claimed-key : (keys : List ℕ) (i : ℕ) (first second last : Worker) → i < length keys →
+    Claims (λ k. In k (take i keys)) first second → Claims (λ k. k ≡ at keys i) second last →
+    Claims (λ k. In k (take (i + 1) keys)) first last
+unfolding In
+claimed-key keys i first second last l f g =
+    let more = take_more keys i 0 l in
+    claims-same (λ k. In k (take i keys) ⊎ (k ≡ at keys i)) (λ k. In k (take (i + 1) keys)) first last
+    (λ k h. subst (In k) (sym more)
+    (⊎_elim (λ j. In-left k (take i keys) (at keys i ∷ []) j)
+    (λ e. In-right k (take i keys) (at keys i ∷ []) (inl e)) h))
+    (λ k h. ⊎_elim (λ j. inl j) (λ j. inr (⊎_elim (λ e. e) (λ none. absurd none) j))
+    (In-cases k (take i keys) (at keys i ∷ []) (subst (In k) more h)))
+    (claims-then (λ k. In k (take i keys)) (λ k. k ≡ at keys i) first second last f g)

@@ -1,69 +1,24 @@
 -- Tables read back from their keys.
-use Rattle.std.proofs.Common.{List, [], ap, get_or, inl, inr, length, map, refl, subst, sym, take, ℕ, ◌++◌, ◌+◌, ◌<◌, ◌∙◌, ◌∷◌, ◌≡◌, ◌↔◌, ⊎_elim}
-use Rattle.std.proofs.Math.Seq.{take-length}
-use Rattle.std.proofs.lemmas.List.{length-map, map-append, take_more}
+use Rattle.std.proofs.Common.{List, [], inl, inr, length, map, refl, subst, sym, ℕ, ◌∙◌, ◌∷◌, ◌≡◌, ◌↔◌, ⊎_elim}
 use Rattle.std.proofs.lemmas.List.Sorted.{IsPermutation-sym, length_permutation}
+use Rattle.std.proofs.lemmas.List.{length-map}
 use Rattle.std.specs.Cmp.Lexicographic.{slice_cmp}
 use Rattle.std.specs.List.Sorted.{IsPermutation, IsSorted}
 use Rattle.std.specs.Ordering.{nat_cmp}
 use Rattle.mb_claims.specs.Lists.{AreDistinct as AreDistinctKeys}
 use Rattle.mb_keyed.proofs.KeyOrders.{In-permuted, distinct-permuted}
-use Rattle.mb_keyed.specs.loops.Keyed.{AreFound, FindsKeyed, IsOfFiber}
+use Rattle.mb_keyed.specs.loops.Keyed.{AreFound, Fiber, FindsKeyed, IsOfFiber, digits_in}
 use Rattle.mb_matrix.proofs.Suits.{same_key}
 use Rattle.mb_matrix.specs.Ascending.{Ascends}
-use Rattle.mb_matrix.specs.Key.{digits_of, key_of}
-use Rattle.mb_matrix.specs.Matrix.{Design, IsDesign}
+use Rattle.mb_matrix.specs.Key.{key_of}
+use Rattle.mb_matrix.specs.Matrix.{IsDesign}
 use Rattle.mb_matrix.specs.declared.digit.Digit.{Digit}
 use Rattle.mb_rings.proofs.AscendingTables.{ascends-sorted}
 use Rattle.mb_rings.proofs.DistinctTables.{distinct-cons, distinct-none}
 use Rattle.mb_rings.specs.Claimed.{IsKeyOf}
 use Rattle.mb_rings.specs.loops.Found.{AreDistinct}
-use Rattle.mb_tables.proofs.ListLaws.{In-cases, In-map, In-map_range}
+use Rattle.mb_tables.proofs.ListLaws.{In-map, In-map_range}
 use Rattle.mb_tables.specs.Lists.{In}
-
--- so many keys are read
-pub record AreRead (matrix : Design) (margins : List ℕ) (digits : List Digit) (found : List ℕ)
-    (tables : List (List ℕ)) (count : ℕ) : Type 0 where
-  pub keys : map (key_of digits) tables ≡ take count found
-  pub each : (v : List ℕ) → In v tables → IsOfFiber matrix margins v
-
--- before the first
-pub read-none : (matrix : Design) (margins : List ℕ) (digits : List Digit) (found : List ℕ)
-    (tables : List (List ℕ)) → tables ≡ [] → AreRead matrix margins digits found tables 0
-unfolding In
-read-none matrix margins digits found tables e =
-    subst (λ (list : List (List ℕ)). AreRead matrix margins digits found list 0) (sym e)
-    (record { keys = refl; each = λ v i. absurd i })
-
--- one more
-pub read-more : (matrix : Design) (margins : List ℕ) (digits : List Digit) (found : List ℕ)
-    (tables all : List (List ℕ)) (count key : ℕ) (table v : List ℕ) → count < length found →
-    key ≡ get_or found count 0 → AreRead matrix margins digits found tables count →
-    IsOfFiber matrix margins v → key ≡ key_of digits v → table ≡ v → all ≡ tables ++ table ∷ [] →
-    AreRead matrix margins digits found all (count + 1)
-unfolding In
-read-more matrix margins digits found tables all count key table v l is h there k same e =
-    subst (λ (list : List (List ℕ)). AreRead matrix margins digits found list (count + 1)) (sym e)
-    (record {
-      keys =
-          map-append (key_of digits) tables (table ∷ [])
-          ∙ ap (λ front. front ++ key_of digits table ∷ []) h.keys
-          ∙ ap (λ n. take count found ++ n ∷ []) (ap (key_of digits) same ∙ sym k ∙ is)
-          ∙ sym (take_more found count 0 l);
-      each = λ w i. ⊎_elim
-          (λ j. h.each w j)
-          (λ j. ⊎_elim
-          (λ f. subst (IsOfFiber matrix margins) (sym (f ∙ same)) there)
-          (λ none. absurd none) j)
-          (In-cases w tables (table ∷ []) i);
-    })
-
--- all keys are read
-pub read-all : (matrix : Design) (margins : List ℕ) (digits : List Digit) (found : List ℕ)
-    (tables : List (List ℕ)) (count : ℕ) → count ≡ length found →
-    AreRead matrix margins digits found tables count → map (key_of digits) tables ≡ found
-read-all matrix margins digits found tables count e h =
-    h.keys ∙ ap (λ n. take n found) e ∙ take-length found
 
 -- tables of distinct keys are distinct
 pub distinct-from_keys : (f : List ℕ → ℕ) (tables : List (List ℕ)) →
@@ -98,25 +53,24 @@ module _ (digits : List Digit) (found : List ℕ) (tables : List (List ℕ))
       ∙ length_permutation found (map (key_of digits) tables) p
 
 -- what is found of keys is found of tables
-pub finds-keyed : (matrix : Design) → IsDesign matrix → (margins : List ℕ) (digits : List Digit) →
-    digits ≡ digits_of matrix margins → (IsSought : List ℕ → Type 0) →
-    ((v : List ℕ) → IsSought v → IsOfFiber matrix margins v) →
+pub finds-keyed : (fiber : Fiber) → IsDesign fiber.matrix → (IsSought : List ℕ → Type 0) →
+    ((v : List ℕ) → IsSought v → IsOfFiber fiber v) →
     (before after found : List ℕ) (next : List (List ℕ)) →
-    AreFound (IsKeyOf digits IsSought) before after found → AreDistinctKeys after →
-    ((key : ℕ) → IsKeyOf digits IsSought key → In key after) →
-    ((key : ℕ) → In key found ↔ IsKeyOf digits (λ v. In v next) key) →
-    ((v : List ℕ) → In v next → IsOfFiber matrix margins v) → Ascends next →
-    FindsKeyed digits IsSought before after next
-finds-keyed matrix sound margins digits e IsSought there before after found next h once told keys
-    fiber up =
+    AreFound (IsKeyOf (digits_in fiber) IsSought) before after found → AreDistinctKeys after →
+    ((key : ℕ) → IsKeyOf (digits_in fiber) IsSought key → In key after) →
+    ((key : ℕ) → In key found ↔ IsKeyOf (digits_in fiber) (λ v. In v next) key) →
+    ((v : List ℕ) → In v next → IsOfFiber fiber v) → Ascends next →
+    FindsKeyed (digits_in fiber) IsSought before after next
+finds-keyed fiber sound IsSought there before after found next h once told keys within up =
+    let digits = digits_in fiber in
     record {
       sought = λ v i.
           let s = h.fresh.sought (key_of digits v) ((keys (key_of digits v)).1 (v, i, refl)) in
-          let one = fiber v i in
+          let one = within v i in
           let other = there s.0 s.1 in
           subst IsSought
-          (sym (same_key matrix sound margins v s.0 one.cells other.cells one.same other.same
-          (subst (λ (d : List Digit). key_of d v ≡ key_of d s.0) e s.2))) s.1;
+          (sym (same_key fiber.matrix sound fiber.margins v s.0 one.cells other.cells one.same
+          other.same s.2)) s.1;
       new = λ v i j. h.fresh.new (key_of digits v) ((keys (key_of digits v)).1 (v, i, refl)) j;
       ascends = up;
       once = once;

@@ -4,7 +4,7 @@ use Rattle.std.proofs.lemmas.List.Sorted.{IsPermutation-refl}
 use Rattle.std.proofs.lemmas.List.{length-map}
 use Rattle.mb_claims.specs.Lists.{AreDistinct as AreDistinctKeys}
 use Rattle.mb_keyed.proofs.KeyedTables.{distinct-from_keys}
-use Rattle.mb_keyed.specs.loops.Keyed.{FindsKeyed, IsKeyFault, IsOfFiber}
+use Rattle.mb_keyed.specs.loops.Keyed.{FindsKeyed, IsKeyFault, IsOfFiber, fiber_at}
 use Rattle.mb_keyed.specs.loops.Worked.{HasKeyedSteps}
 use Rattle.mb_matrix.proofs.Suits.{same_key, suits}
 use Rattle.mb_matrix.specs.Key.{Suits, digits_of, key_of}
@@ -18,9 +18,9 @@ use Rattle.mb_rings.proofs.RingSteps.{rings_to-distinct, rings_to-fiber, rings_t
 use Rattle.mb_rings.proofs.Walking.{IsWalkable, IsWalked, ring-fiber, walked-start, walked-step}
 use Rattle.mb_rings.specs.Claimed.{AreKeysOf, IsKeyOf}
 use Rattle.mb_rings.specs.Ring.{Ring, reached, tables_of}
-use Rattle.mb_rings.specs.loops.Found.{AreDistinct, Finds, IsSearchFault}
-use Rattle.mb_rings.specs.declared.fault.WalkFault.{WalkFault}
 use Rattle.mb_rings.specs.declared.fault.WalkFault.TheVariants.{OutOfMemory, TooLarge}
+use Rattle.mb_rings.specs.declared.fault.WalkFault.{WalkFault}
+use Rattle.mb_rings.specs.loops.Found.{AreDistinct, Finds, IsSearchFault}
 use Rattle.mb_tables.proofs.ListLaws.{In-cases, In-left, In-map, In-right}
 use Rattle.mb_tables.specs.Lists.{In}
 use Rattle.mb_tables.specs.Step.{IsNear}
@@ -72,7 +72,7 @@ module _ (matrix : Design) (sound : IsDesign matrix) (start : List ℕ)
 
   -- a table of the fiber has its margins
   pub of-fiber : (v : List ℕ) → In v (fiber_of matrix start) →
-      IsOfFiber matrix (margins_of matrix start) v
+      IsOfFiber (fiber_at matrix start) v
   of-fiber v i =
       let has = fiber-only matrix sound start v i in
       record { cells = has.0; same = has.1; fits = walkable.counts v i }
@@ -111,7 +111,7 @@ module _ (matrix : Design) (sound : IsDesign matrix) (start : List ℕ)
 
     -- so these have the margins of the start
     pub near-of_fiber : (v : List ℕ) → IsNear moves ring v →
-        IsOfFiber matrix (margins_of matrix start) v
+        IsOfFiber (fiber_at matrix start) v
     near-of_fiber v near = of-fiber v (near-fiber v near)
 
     -- the tables of the ring and what steps make of them have keys

@@ -7,9 +7,11 @@ pub mod KeyOrders
 pub mod KeyedClaims
 pub mod KeyedTables
 pub mod KeyedWalks
+pub mod LentLists
+pub mod NearKeys
 pub mod NeedSteps
 pub mod OpenSteps
-pub mod RingParts
+pub mod RingTables
 pub mod RoundSteps
 pub mod ShareSteps
 pub mod StepLists

@@ -7,10 +7,11 @@ use Rattle.mb_claims.specs.declared.views.RootView.{RootView}
 use Rattle.mb_keyed.proofs.ClaimSteps.{claims-none}
 use Rattle.mb_keyed.proofs.KeyedClaims.{claims-both}
 use Rattle.mb_keyed.proofs.ShareSteps.{near-covered, near-only}
-use Rattle.mb_keyed.specs.loops.Rounds.{AreWorked, IsListed, IsNearBefore, IsNearShare, IsRound}
-use Rattle.mb_keyed.specs.loops.Worked.{Claims, IsIdle, keys_won, notes_made, numbers}
 use Rattle.mb_keyed.specs.declared.gathered.Left.{Left}
+use Rattle.mb_keyed.specs.declared.ranked.Ranked.{Ranked}
 use Rattle.mb_keyed.specs.declared.worker.Worker.{Worker}
+use Rattle.mb_keyed.specs.loops.Rounds.{AreWorked, IsListed, IsNearBefore, IsNearShare, IsRound}
+use Rattle.mb_keyed.specs.loops.Worked.{Claims, IsIdle, keys_in, keys_won, notes_made, numbers}
 use Rattle.mb_matrix.specs.declared.digit.Digit.{Digit}
 use Rattle.mb_rings.proofs.ListElements.{In-flat, element, flat-In}
 use Rattle.mb_rings.specs.Claimed.{IsKeyOf}
@@ -88,15 +89,18 @@ module _ (digits : List Digit) (moves : List (List ℤ)) (ring : Ring) (k n : �
         let done : x.is_left ≡ false =
         subst (λ (w : Worker). w.is_left ≡ false) (get_or_from_slice_get new i x x there.1)
         (none i x l) in
-        let told = ((claimed i x there.1).told done).1 key (h.0, c.2, h.2) in
-        (told.0, flat-In (λ (w : Worker). w.pass.knows.notes) (note told.0 key) new i x there.1 told.1)
+        let told = ((claimed i x there.1).told done).1 key (h.0, c.2, h.2) in (
+          told.0,
+          flat-In (λ (w : Worker). w.pass.knows.notes) (note told.0 key) new i x there.1
+              told.1,
+        )
 
     -- each lists the keys that it won
     all-listed : All IsListed new
     all-listed i d l e =
         let was = idle i d (omega arith) in
         ((each i d (omega arith)).listed e).1
-        (ap (λ (list : List ℕ). reverse list) was.found ∙ sym was.won)
+        (ap (λ (list : List Ranked). reverse (keys_in list)) was.found ∙ sym was.won)
 
     -- all of them together
     pub worked-all : AreWorked (IsKeyOf digits (IsNear moves ring)) new

@@ -1,3 +1,4 @@
+pub mod Graph
 pub mod Keyed
 pub mod Needs
 pub mod ReadRing

@@ -21,21 +21,20 @@ ghost use Rattle.std.specs.Prelude.{
 ghost use Rattle.mb_claims.specs.Claims.{IsRootOf};
 ghost use Rattle.mb_claims.specs.Lists.{AreDistinct};
 ghost use Rattle.mb_claims.specs.Limits.{most_words};
+ghost use Rattle.mb_keyed.specs.loops.Graph.{AreKeyed, IsKeyNear};
 ghost use Rattle.mb_keyed.specs.loops.Keyed.{AreFound, IsKeyFault};
-ghost use Rattle.mb_keyed.specs.loops.Needs.{AreSteps};
-ghost use Rattle.mb_keyed.specs.loops.Worked.{HasKeyedSteps};
-ghost use Rattle.mb_rings.specs.Claimed.{IsKeyOf};
+ghost use Rattle.mb_keyed.specs.loops.Worked.{keys_in};
 ghost use Rattle.mb_rings.specs.Walk.{most_tables};
 ghost use Rattle.mb_tables.specs.Lists.{In};
 ghost use Rattle.mb_tables.specs.Step.{IsNear};
 
+use crate::keyed_graph::KeyedGraph;
+use crate::ranked::Ranked;
 use crate::rounds::round;
-use crate::step_list::StepList;
 use mb_claims::{MOST_WORDS, Root, Shards};
-use mb_matrix::Keys;
 use mb_outside::Gate;
 use mb_rings::WalkFault;
-use mb_tables::{Moves, OutOfMemory, Table};
+use mb_tables::{OutOfMemory, Table};
 use std::alloc::Global;
 use std::thread::Threads;
 
@@ -49,22 +48,18 @@ fn try_ring<R: Threads + Sync, G: Gate + Sync>(
     alloc: Global,
     shards: &Shards,
     root: &mut Root,
-    keys: &Keys,
-    moves: &Moves,
-    steps: &StepList,
+    graph: &KeyedGraph<'_>,
     ring: &[Table],
     earlier: u64,
     room: usize,
     limit: u32,
     workers: u32,
     gate: &G,
-    found: &mut Vec<u64>,
+    found: &mut Vec<Ranked>,
 ) -> Result<Option<u64>, WalkFault>
     requires root_ours { IsRootOf shards.now root.old }
     requires none_open { root.old.knows.opened ≡ [] }
-    requires steps { AreSteps keys.now moves.now.width moves.now.rows steps.now }
-    requires keyed { (u : List ℕ) → In u ring.now →
-        HasKeyedSteps keys.now moves.now.width moves.now.rows u }
+    requires keyed { AreKeyed graph.now ring.now }
     requires some { 1 ≤ workers }
     requires few { workers ≤ 64 }
     requires small_ring { length ring.now < 2 ^ 32 }
@@ -74,24 +69,24 @@ fn try_ring<R: Threads + Sync, G: Gate + Sync>(
     ensures none_open { root.new.knows.opened ≡ [] }
     ensures near { (key : ℕ) → In key root.new.knows.gathered →
         In key root.old.knows.gathered
-        ⊎ IsKeyOf keys.now (IsNear moves.now.rows ring.now) key }
+        ⊎ IsKeyNear graph.now ring.now key }
     ensures found { OnOk result ((known : List ℕ) →
-        AreFound (IsKeyOf keys.now (IsNear moves.now.rows ring.now)) known
-        root.old.knows.gathered found.old.items →
-        AreFound (IsKeyOf keys.now (IsNear moves.now.rows ring.now)) known
-        root.new.knows.gathered found.new.items) }
+        AreFound (IsKeyNear graph.now ring.now) known
+        root.old.knows.gathered (keys_in found.old.items) →
+        AreFound (IsKeyNear graph.now ring.now) known
+        root.new.knows.gathered (keys_in found.new.items)) }
     ensures once { OnOk result (AreDistinct root.new.knows.gathered) }
     ensures told { IfOk result (λ again. IfNone again ((key : ℕ) →
-        IsKeyOf keys.now (IsNear moves.now.rows ring.now) key →
+        IsKeyNear graph.now ring.now key →
         In key root.new.knows.gathered)) }
     ensures room { OnOk result (length found.new.items ≤ room) }
     ensures refused { IfErr result (λ fault. (known : List ℕ) →
-        AreFound (IsKeyOf keys.now (IsNear moves.now.rows ring.now)) known
-        root.old.knows.gathered found.old.items →
-        IsKeyFault (IsKeyOf keys.now (IsNear moves.now.rows ring.now)) known room limit fault) }
+        AreFound (IsKeyNear graph.now ring.now) known
+        root.old.knows.gathered (keys_in found.old.items) →
+        IsKeyFault (IsKeyNear graph.now ring.now) known room limit fault) }
 {
     let left = round(
-        rt, alloc, shards, root, keys, moves, steps, ring, earlier, room, workers, gate, found,
+        rt, alloc, shards, root, graph, ring, earlier, room, workers, gate, found,
     )?;
     if left.is_short {
         return Err(WalkFault::OutOfMemory);
@@ -188,21 +183,17 @@ pub fn claim_ring<R: Threads + Sync, G: Gate + Sync>(
     alloc: Global,
     shards: Shards,
     root: &mut Root,
-    keys: &Keys,
-    moves: &Moves,
-    steps: &StepList,
+    graph: &KeyedGraph<'_>,
     ring: &[Table],
     earlier: u64,
     room: usize,
     limit: u32,
     workers: u32,
     gate: &G,
-) -> (Shards, Result<Vec<u64>, WalkFault>)
+) -> (Shards, Result<Vec<Ranked>, WalkFault>)
     requires root_ours { IsRootOf shards root.old }
     requires none_open { root.old.knows.opened ≡ [] }
-    requires steps { AreSteps keys.now moves.now.width moves.now.rows steps.now }
-    requires keyed { (u : List ℕ) → In u ring.now →
-        HasKeyedSteps keys.now moves.now.width moves.now.rows u }
+    requires keyed { AreKeyed graph.now ring.now }
     requires some { 1 ≤ workers }
     requires few { workers ≤ 64 }
     requires small_ring { length ring.now < 2 ^ 32 }
@@ -212,17 +203,17 @@ pub fn claim_ring<R: Threads + Sync, G: Gate + Sync>(
     ensures none_open { root.new.knows.opened ≡ [] }
     ensures near { (key : ℕ) → In key root.new.knows.gathered →
         In key root.old.knows.gathered
-        ⊎ IsKeyOf keys.now (IsNear moves.now.rows ring.now) key }
+        ⊎ IsKeyNear graph.now ring.now key }
     ensures found { IfOk result.1 (λ found.
-        AreFound (IsKeyOf keys.now (IsNear moves.now.rows ring.now))
-        root.old.knows.gathered root.new.knows.gathered found.items) }
+        AreFound (IsKeyNear graph.now ring.now)
+        root.old.knows.gathered root.new.knows.gathered (keys_in found.items)) }
     ensures once { OnOk result.1 (AreDistinct root.new.knows.gathered) }
     ensures told { OnOk result.1 ((key : ℕ) →
-        IsKeyOf keys.now (IsNear moves.now.rows ring.now) key →
+        IsKeyNear graph.now ring.now key →
         In key root.new.knows.gathered) }
     ensures room { IfOk result.1 (λ found. length found.items ≤ room) }
     ensures refused { IfErr result.1
-        (IsKeyFault (IsKeyOf keys.now (IsNear moves.now.rows ring.now))
+        (IsKeyFault (IsKeyNear graph.now ring.now)
         root.old.knows.gathered room limit) }
 {
     let stored = earlier + ring.len() as u64;
@@ -233,8 +224,7 @@ pub fn claim_ring<R: Threads + Sync, G: Gate + Sync>(
     let mut found = Vec::new(alloc);
     for _ in 0..MOST_ROUNDS {
         match try_ring(
-            rt, alloc, &shards, root, keys, moves, steps, ring, earlier, room, limit, workers,
-            gate, &mut found,
+            rt, alloc, &shards, root, graph, ring, earlier, room, limit, workers, gate, &mut found,
         ) {
             Err(fault) => return (shards, Err(fault)),
             Ok(None) => return (shards, Ok(found)),

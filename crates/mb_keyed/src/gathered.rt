@@ -4,9 +4,10 @@ ghost use Rattle.std.specs.Prelude.{◌++◌, ◌<◌, ◌≡◌, ◌≤◌, All
 ghost use Rattle.mb_claims.specs.Claims.{IsRootOf};
 ghost use Rattle.mb_claims.specs.Closed.{IsClosed};
 ghost use Rattle.mb_keyed.specs.loops.Rounds.{IsListed};
-ghost use Rattle.mb_keyed.specs.loops.Worked.{IsWorkerOf, keys_won, notes_made, numbers};
+ghost use Rattle.mb_keyed.specs.loops.Worked.{IsWorkerOf, keys_in, keys_won, notes_made, numbers};
 ghost use Rattle.mb_tables.specs.Lists.{In};
 
+use crate::ranked::Ranked;
 use crate::worker::Worker;
 use mb_claims::{Root, Shards};
 
@@ -22,7 +23,7 @@ pub struct Left {
 }
 
 /// Adds keys to a list, and tells whether memory was wanting.
-fn is_short_for(found: &mut Vec<u64>, keys: &[u64]) -> bool
+fn is_short_for(found: &mut Vec<Ranked>, keys: &[Ranked]) -> bool
     ensures { result ≡ false → found.new.items ≡ found.old.items ++ keys.now }
 {
     found.extend_from_slice(keys).is_err()
@@ -34,7 +35,7 @@ pub fn gather_all(
     shards: &Shards,
     root: &mut Root,
     mut workers: Vec<Worker>,
-    found: &mut Vec<u64>,
+    found: &mut Vec<Ranked>,
 ) -> Left
     requires root_ours { IsRootOf shards.now root.old }
     requires some { 1 ≤ length workers.items }
@@ -50,7 +51,7 @@ pub fn gather_all(
     ensures left { result.is_left ≡ false →
         All (λ worker. worker.is_left ≡ false) workers.items }
     ensures found { result.is_short ≡ false →
-        found.new.items ≡ found.old.items ++ reverse (keys_won workers.items) }
+        keys_in found.new.items ≡ keys_in found.old.items ++ reverse (keys_won workers.items) }
 {
     let mut left = Left {
         is_left: false,

@@ -17,59 +17,51 @@ ghost use Rattle.std.specs.Prelude.{
 };
 ghost use Rattle.mb_claims.specs.Claims.{IsRootOf};
 ghost use Rattle.mb_claims.specs.Lists.{AreDistinct};
-ghost use Rattle.mb_keyed.specs.loops.Keyed.{FindsKeyed, IsKeyFault, IsOfFiber};
-ghost use Rattle.mb_keyed.specs.loops.Needs.{AreSteps};
-ghost use Rattle.mb_keyed.specs.loops.Worked.{HasKeyedSteps};
+ghost use Rattle.mb_keyed.specs.loops.Graph.{AreKeyed, IsKeyNear};
+ghost use Rattle.mb_keyed.specs.loops.Keyed.{FindsKeyed, IsKeyFault, IsOfFiber, digits_in};
+ghost use Rattle.mb_keyed.specs.loops.Worked.{keys_in};
 ghost use Rattle.mb_matrix.specs.Ascending.{Ascends};
-ghost use Rattle.mb_matrix.specs.Key.{digits_of, key_of};
-ghost use Rattle.mb_matrix.specs.Peel.{peel_of};
 ghost use Rattle.mb_rings.specs.Claimed.{IsKeyOf};
 ghost use Rattle.mb_rings.specs.Walk.{most_tables};
 ghost use Rattle.mb_tables.specs.Lists.{In};
 ghost use Rattle.mb_tables.specs.Step.{IsNear};
 
 use crate::claimed_ring::claim_ring;
-use crate::ring_parts::by_parts;
-use crate::step_list::StepList;
+use crate::keyed_fiber::KeyedFiber;
+use crate::keyed_graph::KeyedGraph;
+use crate::ranked::Ranked;
+use crate::ring_tables::read_tables;
 use mb_claims::{Root, Shards};
-use mb_matrix::{Keys, Matrix, Peel};
 use mb_outside::Gate;
 use mb_rings::WalkFault;
-use mb_tables::{Moves, OutOfMemory, Table};
+use mb_tables::{OutOfMemory, Table};
 use std::alloc::Global;
 use std::thread::Threads;
 
-/// The tables of the fiber with these keys, in ascending order, by so many workers, or fewer where
-/// there are few. Each reads a part in the order of ranks, so that the sort only merges the parts;
-/// where there is one, it finds it sorted.
+/// The tables of a fiber with these keys, in ascending order, by so many workers, or fewer where there
+/// are few. They are read in the order of their ranks, so the sort finds them sorted.
 fn ring_of_keys<R: Threads + Sync>(
     rt: &R,
     alloc: Global,
-    matrix: &Matrix,
-    peel: &Peel,
-    margins: &[u64],
-    keys: &Keys,
-    found: &[u64],
+    fiber: &KeyedFiber<'_>,
+    found: Vec<Ranked>,
     workers: u32,
 ) -> Result<Vec<Table>, OutOfMemory>
-    requires peel { peel.now ≡ peel_of matrix.now }
-    requires margins { length margins.now ≡ matrix.now.rows }
-    requires keys { keys.now ≡ digits_of matrix.now margins.now }
-    requires there { (key : ℕ) → In key found.now →
-        IsKeyOf keys.now (IsOfFiber matrix.now margins.now) key }
-    requires once { AreDistinct found.now }
+    requires there { (key : ℕ) → In key (keys_in found.items) →
+        IsKeyOf (digits_in fiber.now) (IsOfFiber fiber.now) key }
+    requires once { AreDistinct (keys_in found.items) }
     requires some { 1 ≤ workers }
-    requires few { workers ≤ 64 }
-    requires small { length found.now < 2 ^ 32 }
     ensures keys { IfOk result (λ tables. (key : ℕ) →
-        In key found.now ↔ IsKeyOf keys.now (λ v. In v tables.items) key) }
+        In key (keys_in found.items) ↔ IsKeyOf (digits_in fiber.now) (λ v. In v tables.items) key) }
     ensures fiber { IfOk result (λ tables. (v : List ℕ) → In v tables.items →
-        IsOfFiber matrix.now margins.now v) }
+        IsOfFiber fiber.now v) }
     ensures ascends { IfOk result (λ tables. Ascends tables.items) }
-    ensures count { IfOk result (λ tables. length tables.items ≡ length found.now) }
+    ensures count { IfOk result (λ tables. length tables.items ≡ length found.items) }
 {
-    let parts = (workers as usize).min(found.len() / 256 + 1);
-    let mut tables = by_parts(rt, alloc, matrix, peel, margins, keys, found, parts)?;
+    let threads = (workers as usize).min(found.len() / 256 + 1);
+    let mut order = found;
+    order.sort_unstable_by_key(|found| found.rank);
+    let mut tables = read_tables(rt, alloc, fiber, order.as_slice(), threads)?;
     tables.sort()?;
     Ok(tables)
 }
@@ -81,12 +73,7 @@ pub fn next_keyed_ring<R: Threads + Sync, G: Gate + Sync>(
     alloc: Global,
     shards: Shards,
     root: &mut Root,
-    matrix: &Matrix,
-    peel: &Peel,
-    margins: &[u64],
-    keys: &Keys,
-    moves: &Moves,
-    steps: &StepList,
+    graph: &KeyedGraph<'_>,
     ring: &[Table],
     earlier: u64,
     room: usize,
@@ -96,14 +83,9 @@ pub fn next_keyed_ring<R: Threads + Sync, G: Gate + Sync>(
 ) -> (Shards, Result<Vec<Table>, WalkFault>)
     requires root_ours { IsRootOf shards root.old }
     requires none_open { root.old.knows.opened ≡ [] }
-    requires peel { peel.now ≡ peel_of matrix.now }
-    requires margins { length margins.now ≡ matrix.now.rows }
-    requires keys { keys.now ≡ digits_of matrix.now margins.now }
-    requires steps { AreSteps keys.now moves.now.width moves.now.rows steps.now }
-    requires keyed { (u : List ℕ) → In u ring.now →
-        HasKeyedSteps keys.now moves.now.width moves.now.rows u }
-    requires fiber { (v : List ℕ) → IsNear moves.now.rows ring.now v →
-        IsOfFiber matrix.now margins.now v }
+    requires keyed { AreKeyed graph.now ring.now }
+    requires fiber { (v : List ℕ) → IsNear graph.now.moves.rows ring.now v →
+        IsOfFiber graph.now.fiber v }
     requires some { 1 ≤ workers }
     requires few { workers ≤ 64 }
     requires small_ring { length ring.now < 2 ^ 32 }
@@ -114,34 +96,24 @@ pub fn next_keyed_ring<R: Threads + Sync, G: Gate + Sync>(
     ensures none_open { root.new.knows.opened ≡ [] }
     ensures near { (key : ℕ) → In key root.new.knows.gathered →
         In key root.old.knows.gathered
-        ⊎ IsKeyOf keys.now (IsNear moves.now.rows ring.now) key }
-    ensures found { IfOk result.1 (λ next. FindsKeyed keys.now (IsNear moves.now.rows ring.now)
-        root.old.knows.gathered root.new.knows.gathered next.items) }
+        ⊎ IsKeyNear graph.now ring.now key }
+    ensures found { IfOk result.1 (λ next. FindsKeyed (digits_in graph.now.fiber)
+        (IsNear graph.now.moves.rows ring.now) root.old.knows.gathered root.new.knows.gathered
+        next.items) }
     ensures room { IfOk result.1 (λ next. length next.items ≤ room) }
     ensures refused { IfErr result.1
-        (IsKeyFault (IsKeyOf keys.now (IsNear moves.now.rows ring.now))
+        (IsKeyFault (IsKeyNear graph.now ring.now)
         root.old.knows.gathered room limit) }
 {
-    let _cells = matrix.cols();
+    let _keys = graph.keys();
     let (shards, found) = claim_ring(
-        rt, alloc, shards, root, keys, moves, steps, ring, earlier, room, limit, workers, gate,
+        rt, alloc, shards, root, graph, ring, earlier, room, limit, workers, gate,
     );
     match found {
         Err(fault) => (shards, Err(fault)),
-        Ok(found) => {
-            match ring_of_keys(
-                rt,
-                alloc,
-                matrix,
-                peel,
-                margins,
-                keys,
-                found.as_slice(),
-                workers,
-            ) {
-                Err(_) => (shards, Err(WalkFault::OutOfMemory)),
-                Ok(next) => (shards, Ok(next)),
-            }
-        }
+        Ok(found) => match ring_of_keys(rt, alloc, graph.fiber(), found, workers) {
+            Err(_) => (shards, Err(WalkFault::OutOfMemory)),
+            Ok(next) => (shards, Ok(next)),
+        },
     }
 }

@@ -24,10 +24,10 @@ ghost use Rattle.std.specs.Prelude.{
   ℕ,
 };
 ghost use Rattle.mb_claims.specs.Claims.{IsRootOf};
-ghost use Rattle.mb_keyed.specs.loops.Needs.{AreSteps};
+ghost use Rattle.mb_keyed.specs.loops.Graph.{IsKeyIn};
+ghost use Rattle.mb_keyed.specs.loops.Keyed.{digits_in, fiber_at};
 ghost use Rattle.mb_matrix.specs.Key.{digits_of, key_of};
 ghost use Rattle.mb_matrix.specs.Matrix.{IsMove, margins_of};
-ghost use Rattle.mb_matrix.specs.Peel.{peel_of};
 ghost use Rattle.mb_rings.specs.Claimed.{AreKeysOf, IsKeyOf};
 ghost use Rattle.mb_rings.specs.Ring.{reached, tables_of};
 ghost use Rattle.mb_rings.specs.Walk.{most_tables, walk_cause, walk_of};
@@ -35,57 +35,23 @@ ghost use Rattle.mb_rings.specs.loops.RingList.{listed};
 ghost use Rattle.mb_tables.specs.Answers.{Gives};
 ghost use Rattle.mb_tables.specs.Lists.{In};
 
+use crate::keyed_graph::KeyedGraph;
 use crate::keyed_ring::next_keyed_ring;
-use crate::step_list::{StepList, steps_of};
 use mb_claims::{Root, Shards};
-use mb_matrix::{Keys, Matrix, Peel};
+use mb_matrix::{Keys, Matrix};
 use mb_outside::Gate;
 use mb_rings::{Rings, WalkFault};
 use mb_tables::{Moves, OutOfMemory, Table};
 use std::alloc::Global;
 use std::thread::Threads;
 
-/// What a walk by keys goes by: the peel, the margins of the start, the steps of the moves, and
-/// ring 0.
-#[derive(Drop)]
-struct Plan {
-    peel: Peel,
-    margins: Vec<u64>,
-    steps: StepList,
-    ring: Vec<Table>,
-}
-
-/// What the walk goes by.
-fn plan_of(
-    alloc: Global,
-    matrix: &Matrix,
-    moves: &Moves,
-    start: &Table,
-    keys: &Keys,
-) -> Result<Plan, OutOfMemory>
-    requires cells { length start.now ≡ length matrix.now.columns }
-    requires width { moves.now.width ≡ length matrix.now.columns }
-    requires keys { keys.now ≡ digits_of matrix.now (margins_of matrix.now start.now) }
-    ensures peel { IfOk result (λ plan. plan.peel ≡ peel_of matrix.now) }
-    ensures margins { IfOk result (λ plan.
-        plan.margins.items ≡ margins_of matrix.now start.now) }
-    ensures rows { IfOk result (λ plan. length plan.margins.items ≡ matrix.now.rows) }
-    ensures steps { IfOk result (λ plan.
-        AreSteps keys.now moves.now.width moves.now.rows plan.steps) }
-    ensures ring { IfOk result (λ plan. plan.ring.items ≡ start.now ∷ []) }
+/// Ring 0, which has the start alone.
+fn first_ring(alloc: Global, start: &Table) -> Result<Vec<Table>, OutOfMemory>
+    ensures { IfOk result (λ ring. ring.items ≡ start.now ∷ []) }
 {
-    let _cells = matrix.cols();
-    let peel = Peel::of(alloc, matrix)?;
-    let margins = matrix.margins(alloc, start)?;
-    let steps = steps_of(alloc, keys, moves)?;
     let mut ring = Vec::new(alloc);
     ring.push(start.try_copy()?)?;
-    Ok(Plan {
-        peel,
-        margins,
-        steps,
-        ring,
-    })
+    Ok(ring)
 }
 
 /// Claims a first key. It is new, since no key is stored.
@@ -120,46 +86,38 @@ fn walk_rings<R: Threads + Sync, G: Gate + Sync>(
     alloc: Global,
     shards: Shards,
     root: &mut Root,
-    matrix: &Matrix,
-    peel: &Peel,
-    margins: &[u64],
-    keys: &Keys,
-    moves: &Moves,
-    steps: &StepList,
+    graph: &KeyedGraph<'_>,
     start: &Table,
     ring: Vec<Table>,
     limit: u32,
     workers: u32,
     gate: &G,
 ) -> (Shards, Result<Rings, WalkFault>)
-    requires cells { length start.now ≡ length matrix.now.columns }
-    requires width { moves.now.width ≡ length matrix.now.columns }
-    requires moves { All (IsMove matrix.now) moves.now.rows }
-    requires fits { All (λ margin. margin < 2 ^ 32) (margins_of matrix.now start.now) }
+    requires cells { length start.now ≡ length graph.now.fiber.matrix.columns }
+    requires width { graph.now.moves.width ≡ length graph.now.fiber.matrix.columns }
+    requires moves { All (IsMove graph.now.fiber.matrix) graph.now.moves.rows }
+    requires fits { All (λ margin. margin < 2 ^ 32) (margins_of graph.now.fiber.matrix start.now) }
     requires some { 1 ≤ limit }
     requires small { limit ≤ most_tables }
     requires some_worker { 1 ≤ workers }
     requires few_workers { workers ≤ 64 }
-    requires peel { peel.now ≡ peel_of matrix.now }
-    requires margins { margins.now ≡ margins_of matrix.now start.now }
-    requires rows { length margins.now ≡ matrix.now.rows }
-    requires keys { keys.now ≡ digits_of matrix.now (margins_of matrix.now start.now) }
-    requires steps { AreSteps keys.now moves.now.width moves.now.rows steps.now }
+    requires fiber { graph.now.fiber ≡ fiber_at graph.now.fiber.matrix start.now }
     requires ring { ring.items ≡ start.now ∷ [] }
     requires root_ours { IsRootOf shards root.old }
     requires none_open { root.old.knows.opened ≡ [] }
-    requires first { root.old.knows.gathered ≡ key_of keys.now start.now ∷ [] }
+    requires first { root.old.knows.gathered ≡ key_of (digits_in graph.now.fiber) start.now ∷ [] }
     ensures rings { Gives walk_cause (λ walked. walked.rings) result.1
-        (walk_of limit matrix.now moves.now.rows start.now) }
+        (walk_of limit graph.now.fiber.matrix graph.now.moves.rows start.now) }
     ensures ours { IsRootOf result.0 root.new }
     ensures none_open { root.new.knows.opened ≡ [] }
     ensures keys { IfOk result.1 (λ walked.
-        AreKeysOf keys.now (tables_of walked.rings) root.new.knows.gathered) }
+        AreKeysOf (digits_in graph.now.fiber) (tables_of walked.rings) root.new.knows.gathered) }
     ensures no_claims { IfOk result.1 (λ walked. walked.claims ≡ None) }
     ensures reached { OnErr result.1 ((key : ℕ) → In key root.new.knows.gathered →
-        IsKeyOf keys.now (λ v. In v (reached matrix.now moves.now.rows start.now)) key) }
+        IsKeyIn graph.now
+        (λ v. In v (reached graph.now.fiber.matrix graph.now.moves.rows start.now)) key) }
 {
-    let _cells = matrix.cols();
+    let _keys = graph.keys();
     let mut shards = shards;
     let mut ring = ring;
     let mut rings = Vec::new(alloc);
@@ -172,12 +130,7 @@ fn walk_rings<R: Threads + Sync, G: Gate + Sync>(
             alloc,
             shards,
             root,
-            matrix,
-            peel,
-            margins,
-            keys,
-            moves,
-            steps,
+            graph,
             ring.as_slice(),
             earlier as u64,
             room,
@@ -211,8 +164,7 @@ fn walk_rings<R: Threads + Sync, G: Gate + Sync>(
 ///
 /// At the end no pass is open, and the root belongs to the shards that come back. The gathered keys
 /// are those of the tables of the rings, each once; the rings have no claims of their own, since the
-/// caller has the root. After a refusal each gathered key is that of a
-/// reached table.
+/// caller has the root. After a refusal each gathered key is that of a reached table.
 pub fn walk_on<R: Threads + Sync, G: Gate + Sync>(
     rt: &R,
     alloc: Global,
@@ -250,35 +202,19 @@ pub fn walk_on<R: Threads + Sync, G: Gate + Sync>(
         IsKeyOf keys.now (λ v. In v (reached matrix.now moves.now.rows start.now)) key) }
 {
     let _cells = matrix.cols();
-    let plan = match plan_of(alloc, matrix, moves, start, keys) {
+    let graph = match KeyedGraph::of(alloc, matrix, moves, start, keys) {
         Err(_) => return Err((shards, WalkFault::OutOfMemory)),
-        Ok(plan) => plan,
+        Ok(graph) => graph,
+    };
+    let ring = match first_ring(alloc, start) {
+        Err(_) => return Err((shards, WalkFault::OutOfMemory)),
+        Ok(ring) => ring,
     };
     if claim_first(&shards, root, keys.key(start)).is_err() {
         return Err((shards, WalkFault::OutOfMemory));
     }
-    let Plan {
-        peel,
-        margins,
-        steps,
-        ring,
-    } = plan;
     let (shards, rings) = walk_rings(
-        rt,
-        alloc,
-        shards,
-        root,
-        matrix,
-        &peel,
-        margins.as_slice(),
-        keys,
-        moves,
-        &steps,
-        start,
-        ring,
-        limit,
-        workers,
-        gate,
+        rt, alloc, shards, root, &graph, start, ring, limit, workers, gate,
     );
     match rings {
         Err(fault) => Err((shards, fault)),

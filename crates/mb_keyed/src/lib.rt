@@ -5,12 +5,15 @@
 mod cache;
 mod claimed_ring;
 mod gathered;
+mod keyed_fiber;
+mod keyed_graph;
 mod keyed_ring;
-mod keyed_steps;
 mod keyed_walk;
+mod near_keys;
 mod needs;
 mod opened;
-mod ring_parts;
+mod ranked;
+mod ring_tables;
 mod rounds;
 mod shares;
 mod step_list;

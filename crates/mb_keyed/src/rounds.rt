@@ -22,32 +22,31 @@ ghost use Rattle.std.specs.Prelude.{
 };
 ghost use Rattle.mb_claims.specs.Claims.{IsRootOf};
 ghost use Rattle.mb_claims.specs.Closed.{IsClosed};
-ghost use Rattle.mb_keyed.specs.loops.Needs.{AreSteps};
+ghost use Rattle.mb_keyed.specs.loops.Graph.{AreKeyed, IsKeyIn, IsKeyNear};
 ghost use Rattle.mb_keyed.specs.loops.Rounds.{AreWorked, FallsTo, IsListed, IsNearBefore, IsNearShare, IsRound};
 ghost use Rattle.mb_keyed.specs.loops.Worked.{
   Claims,
-  HasKeyedSteps,
   IsIdle,
   IsWorkerOf,
+  keys_in,
   keys_won,
   notes_made,
   numbers,
 };
 ghost use Rattle.mb_keyed.specs.declared.worker.Worker.{Worker};
-ghost use Rattle.mb_rings.specs.Claimed.{IsKeyOf};
 ghost use Rattle.mb_tables.specs.Lists.{In};
 ghost use Rattle.mb_tables.specs.Step.{IsNear};
 
 use crate::gathered::{Left, gather_all};
+use crate::keyed_graph::KeyedGraph;
 use crate::opened::open;
+use crate::ranked::Ranked;
 use crate::shares::expand_share;
-use crate::step_list::StepList;
 use crate::worker::Worker;
 use mb_claims::{Root, Shards};
-use mb_matrix::Keys;
 use mb_outside::Gate;
 use mb_rings::share_of;
-use mb_tables::{Moves, OutOfMemory, Table};
+use mb_tables::{OutOfMemory, Table};
 use std::alloc::Global;
 use std::thread;
 use std::thread::Threads;
@@ -64,9 +63,7 @@ fn falls_to(passes: usize, number: usize, share: usize) -> bool
 /// Expands the tables of a share, where it falls to the worker.
 fn try_share<G: Gate>(
     shards: &Shards,
-    keys: &Keys,
-    moves: &Moves,
-    steps: &StepList,
+    graph: &KeyedGraph<'_>,
     ring: &[Table],
     earlier: u64,
     room: usize,
@@ -78,34 +75,28 @@ fn try_share<G: Gate>(
     worker: &mut Worker,
 )
     requires ours { IsWorkerOf shards.now worker.old }
-    requires steps { AreSteps keys.now moves.now.width moves.now.rows steps.now }
-    requires keyed { (u : List ℕ) → In u ring.now →
-        HasKeyedSteps keys.now moves.now.width moves.now.rows u }
+    requires keyed { AreKeyed graph.now ring.now }
     requires there { share < count }
     requires few { count ≤ 64 }
     requires small { length ring.now < 2 ^ 32 }
     requires items { earlier < 2 ^ 32 }
     ensures ours { IsWorkerOf shards.now worker.new }
     ensures claimed { Claims
-        (IsKeyOf keys.now (IsNearShare moves.now.rows ring.now count passes number share))
+        (IsKeyIn graph.now (IsNearShare graph.now.moves.rows ring.now count passes number share))
         worker.old worker.new }
 {
     if falls_to(passes, number, share) {
         let (from, tables) = share_of(ring, share, count);
         let first = earlier + from as u64;
         let number = share as u32;
-        expand_share(
-            shards, keys, moves, steps, tables, number, first, room, gate, worker,
-        );
+        expand_share(shards, graph, tables, number, first, room, gate, worker);
     }
 }
 
 /// Expands the tables of all shares that fall to the worker.
 fn work<G: Gate>(
     shards: &Shards,
-    keys: &Keys,
-    moves: &Moves,
-    steps: &StepList,
+    graph: &KeyedGraph<'_>,
     ring: &[Table],
     earlier: u64,
     room: usize,
@@ -116,21 +107,18 @@ fn work<G: Gate>(
     worker: &mut Worker,
 )
     requires ours { IsWorkerOf shards.now worker.old }
-    requires steps { AreSteps keys.now moves.now.width moves.now.rows steps.now }
-    requires keyed { (u : List ℕ) → In u ring.now →
-        HasKeyedSteps keys.now moves.now.width moves.now.rows u }
+    requires keyed { AreKeyed graph.now ring.now }
     requires few { count ≤ 64 }
     requires small { length ring.now < 2 ^ 32 }
     requires items { earlier < 2 ^ 32 }
     ensures ours { IsWorkerOf shards.now worker.new }
     ensures claimed { Claims
-        (IsKeyOf keys.now (IsNearBefore moves.now.rows ring.now count passes number count))
+        (IsKeyIn graph.now (IsNearBefore graph.now.moves.rows ring.now count passes number count))
         worker.old worker.new }
 {
     for share in 0..count {
         try_share(
-            shards, keys, moves, steps, ring, earlier, room, count, gate, passes, number, share,
-            worker,
+            shards, graph, ring, earlier, room, count, gate, passes, number, share, worker,
         );
     }
 }
@@ -139,9 +127,7 @@ fn work<G: Gate>(
 fn lend<R: Threads + Sync, G: Gate + Sync>(
     rt: &R,
     shards: &Shards,
-    keys: &Keys,
-    moves: &Moves,
-    steps: &StepList,
+    graph: &KeyedGraph<'_>,
     ring: &[Table],
     earlier: u64,
     room: usize,
@@ -151,16 +137,14 @@ fn lend<R: Threads + Sync, G: Gate + Sync>(
 )
     requires ours { All (IsWorkerOf shards.now) workers.old }
     requires some { 1 ≤ length workers.old }
-    requires steps { AreSteps keys.now moves.now.width moves.now.rows steps.now }
-    requires keyed { (u : List ℕ) → In u ring.now →
-        HasKeyedSteps keys.now moves.now.width moves.now.rows u }
+    requires keyed { AreKeyed graph.now ring.now }
     requires few { count ≤ 64 }
     requires small { length ring.now < 2 ^ 32 }
     requires items { earlier < 2 ^ 32 }
     ensures ours { All (IsWorkerOf shards.now) workers.new }
     ensures claimed { (i : ℕ) (d : Worker) → i < length workers.old → Claims
-        (IsKeyOf keys.now
-        (IsNearBefore moves.now.rows ring.now count (length workers.old) i count))
+        (IsKeyIn graph.now
+        (IsNearBefore graph.now.moves.rows ring.now count (length workers.old) i count))
         (slice_index_or workers.old i d) (slice_index_or workers.new i d) }
 {
     let passes = workers.len();
@@ -170,8 +154,7 @@ fn lend<R: Threads + Sync, G: Gate + Sync>(
         passes,
         &|number, worker| {
             work(
-                shards, keys, moves, steps, ring, earlier, room, count, gate, passes, number,
-                worker,
+                shards, graph, ring, earlier, room, count, gate, passes, number, worker,
             )
         },
     );
@@ -181,9 +164,7 @@ fn lend<R: Threads + Sync, G: Gate + Sync>(
 fn work_all<R: Threads + Sync, G: Gate + Sync>(
     rt: &R,
     shards: &Shards,
-    keys: &Keys,
-    moves: &Moves,
-    steps: &StepList,
+    graph: &KeyedGraph<'_>,
     ring: &[Table],
     earlier: u64,
     room: usize,
@@ -194,21 +175,17 @@ fn work_all<R: Threads + Sync, G: Gate + Sync>(
     requires ours { All (IsWorkerOf shards.now) workers.old }
     requires idle { All IsIdle workers.old }
     requires some { 1 ≤ length workers.old }
-    requires steps { AreSteps keys.now moves.now.width moves.now.rows steps.now }
-    requires keyed { (u : List ℕ) → In u ring.now →
-        HasKeyedSteps keys.now moves.now.width moves.now.rows u }
+    requires keyed { AreKeyed graph.now ring.now }
     requires shares { 1 ≤ count }
     requires few { count ≤ 64 }
     requires small { length ring.now < 2 ^ 32 }
     requires items { earlier < 2 ^ 32 }
     ensures ours { All (IsWorkerOf shards.now) workers.new }
     ensures numbers { (n : ℕ) → In n (numbers workers.old) → In n (numbers workers.new) }
-    ensures worked { AreWorked (IsKeyOf keys.now (IsNear moves.now.rows ring.now)) workers.new }
+    ensures worked { AreWorked (IsKeyNear graph.now ring.now) workers.new }
     ensures some { 1 ≤ length workers.new }
 {
-    lend(
-        rt, shards, keys, moves, steps, ring, earlier, room, count, gate, workers,
-    );
+    lend(rt, shards, graph, ring, earlier, room, count, gate, workers);
 }
 
 /// Claims the keys of the tables one step from a ring, by so many workers, and adds those that are
@@ -219,32 +196,29 @@ pub fn round<R: Threads + Sync, G: Gate + Sync>(
     alloc: Global,
     shards: &Shards,
     root: &mut Root,
-    keys: &Keys,
-    moves: &Moves,
-    steps: &StepList,
+    graph: &KeyedGraph<'_>,
     ring: &[Table],
     earlier: u64,
     room: usize,
     count: u32,
     gate: &G,
-    found: &mut Vec<u64>,
+    found: &mut Vec<Ranked>,
 ) -> Result<Left, OutOfMemory>
     requires root_ours { IsRootOf shards.now root.old }
     requires none_open { root.old.knows.opened ≡ [] }
-    requires steps { AreSteps keys.now moves.now.width moves.now.rows steps.now }
-    requires keyed { (u : List ℕ) → In u ring.now →
-        HasKeyedSteps keys.now moves.now.width moves.now.rows u }
+    requires keyed { AreKeyed graph.now ring.now }
     requires shares { 1 ≤ count }
     requires few { count ≤ 64 }
     requires small { length ring.now < 2 ^ 32 }
     requires items { earlier < 2 ^ 32 }
     ensures ours { IsRootOf shards.now root.new }
     ensures none_open { root.new.knows.opened ≡ [] }
-    ensures round { IfOk result (IsRound (IsKeyOf keys.now (IsNear moves.now.rows ring.now))
-        root.old.knows.gathered root.new.knows.gathered found.old.items found.new.items) }
+    ensures round { IfOk result (IsRound (IsKeyNear graph.now ring.now)
+        root.old.knows.gathered root.new.knows.gathered (keys_in found.old.items)
+        (keys_in found.new.items)) }
     ensures near { (key : ℕ) → In key root.new.knows.gathered →
         In key root.old.knows.gathered
-        ⊎ IsKeyOf keys.now (IsNear moves.now.rows ring.now) key }
+        ⊎ IsKeyNear graph.now ring.now key }
     ensures kept { OnErr result (root.new ≡ root.old) }
     ensures same { OnErr result (found.new.items ≡ found.old.items) }
 {
@@ -252,8 +226,6 @@ pub fn round<R: Threads + Sync, G: Gate + Sync>(
     let mut workers = open(alloc, shards, root, passes, ring.len())?;
     let count = count as usize;
     let list = workers.as_mut_slice();
-    work_all(
-        rt, shards, keys, moves, steps, ring, earlier, room, count, gate, list,
-    );
+    work_all(rt, shards, graph, ring, earlier, room, count, gate, list);
     Ok(gather_all(shards, root, workers, found))
 }

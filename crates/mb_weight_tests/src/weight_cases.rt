@@ -4,7 +4,7 @@
 use crate::weights::{Case, Fiber};
 
 /// Tables and their weights, none where they are 2^128 or more.
-pub(crate) const WEIGHTS: [Case; 72] = [
+pub(crate) const WEIGHTS: [Case; 88] = [
     Case {
         groups: "0 0 1 1",
         bases: "1 1 1 1",
@@ -256,6 +256,102 @@ pub(crate) const WEIGHTS: [Case; 72] = [
         bases: "1 1",
         counts: "4294967295 5",
         weight: None,
+    },
+    Case {
+        groups: "0 0",
+        bases: "1 1",
+        counts: "0 31",
+        weight: Some(1),
+    },
+    Case {
+        groups: "0 0",
+        bases: "1 1",
+        counts: "31 0",
+        weight: Some(1),
+    },
+    Case {
+        groups: "0 0",
+        bases: "1 1",
+        counts: "0 32",
+        weight: Some(1),
+    },
+    Case {
+        groups: "0 0",
+        bases: "1 1",
+        counts: "1 31",
+        weight: Some(32),
+    },
+    Case {
+        groups: "0 0",
+        bases: "1 1",
+        counts: "31 1",
+        weight: Some(32),
+    },
+    Case {
+        groups: "0 0",
+        bases: "1 1",
+        counts: "1 32",
+        weight: Some(33),
+    },
+    Case {
+        groups: "0 0",
+        bases: "1 1",
+        counts: "32 1",
+        weight: Some(33),
+    },
+    Case {
+        groups: "0 0",
+        bases: "1 1",
+        counts: "30 31",
+        weight: Some(232_714_176_627_630_544),
+    },
+    Case {
+        groups: "0 0",
+        bases: "1 1",
+        counts: "31 31",
+        weight: Some(465_428_353_255_261_088),
+    },
+    Case {
+        groups: "0 0",
+        bases: "1 1",
+        counts: "31 32",
+        weight: Some(916_312_070_471_295_267),
+    },
+    Case {
+        groups: "0 0",
+        bases: "1 1",
+        counts: "32 31",
+        weight: Some(916_312_070_471_295_267),
+    },
+    Case {
+        groups: "0 0",
+        bases: "1 1",
+        counts: "32 32",
+        weight: Some(1_832_624_140_942_590_534),
+    },
+    Case {
+        groups: "0 0 0",
+        bases: "1 2 1",
+        counts: "16 15 31",
+        weight: Some(4_583_585_482_206_906_029_291_345_018_880),
+    },
+    Case {
+        groups: "0 0 0",
+        bases: "1 2 1",
+        counts: "16 16 31",
+        weight: Some(36_095_735_672_379_384_980_669_342_023_680),
+    },
+    Case {
+        groups: "0 0 0",
+        bases: "1 2 1",
+        counts: "31 0 32",
+        weight: Some(916_312_070_471_295_267),
+    },
+    Case {
+        groups: "0 0 0",
+        bases: "1 2 1",
+        counts: "1 30 1",
+        weight: Some(1_065_151_889_408),
     },
     Case {
         groups: "0 0 1 3 4 5",

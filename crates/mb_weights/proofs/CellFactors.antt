@@ -218,6 +218,17 @@ factor-none rest b x none =
     let f = pow-zero b in
     ap (λ x. factor rest b x) none ∙ rw (e, f) refl
 
+-- 1 to any power
+one-pow : (n : ℕ) → 1 ^ n ≡ 1
+one-pow zero = pow-zero 1
+one-pow (suc n) = let e = one-pow n in pow-suc 1 n ∙ rw e refl
+
+-- a base number of 1 gives no power
+pub factor-one : (rest b x : ℕ) → b ≡ 1 → factor rest b x ≡ ways rest x
+factor-one rest b x one =
+    let e = one-pow x in
+    ap (λ b. factor rest b x) one ∙ rw e (omega arith)
+
 -- one cell more before those from one on
 pub one_cell_more : (groups bases u : List ℕ) (k product rest : ℕ) →
     1 ≤ k → k ≤ length groups → length bases ≡ length groups → length u ≡ length groups →
@@ -255,11 +266,6 @@ factors_within (h ∷ groups) (b ∷ bases) (x ∷ u) (suc k) m n a =
     (factor_above (total_of h groups u) b x (All-head (λ b. 1 ≤ b) b bases a))
     (factors_above groups bases u rest) in
     omega (arith, later, e, f.1)
-
--- 1 to any power
-one-pow : (n : ℕ) → 1 ^ n ≡ 1
-one-pow zero = pow-zero 1
-one-pow (suc n) = let e = one-pow n in pow-suc 1 n ∙ rw e refl
 
 -- no cell is in a group that none of them names
 in_group-absent : (g : ℕ) (groups u : List ℕ) → All (λ h. h ≡ g → ⊥) groups →

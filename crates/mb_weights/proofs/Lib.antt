@@ -4,5 +4,6 @@ pub mod CellFactors
 pub mod GroupTotals
 pub mod LongDivision
 pub mod Multinomials
+pub mod SmallWays
 pub mod SummedTables
 pub mod TableOrders

@@ -3,6 +3,9 @@
 ghost use Rattle.std.specs.Prelude.{◌+◌, ◌*◌, ◌/◌, ◌<◌, ◌^◌};
 ghost use Rattle.std.specs.Option.{SomeIff};
 ghost use Rattle.mb_weights.specs.Binomial.{ways};
+ghost use Rattle.mb_weights.specs.loops.SmallWays.{AreSmallWays};
+
+use crate::pascal::{KEPT_WAYS, small_binomial};
 
 /// The product, or none where it is 2^128 or more. One multiplication where both factors have 64
 /// bits.
@@ -55,12 +58,17 @@ fn ways_by_steps(many: u64, few: u64) -> Option<u128>
 }
 
 /// In how many ways `count` things are chosen and `rest` left, `rest + count` over `count`, or
-/// none where that is 2^128 or more.
-pub fn binomial(rest: u64, count: u32) -> Option<u128>
-    requires { rest + count < 2 ^ 64 }
+/// none where that is 2^128 or more. Small numbers are looked up, since going by steps costs a
+/// division for each thing chosen.
+pub fn binomial(small: &[u64; 1024], rest: u64, count: u32) -> Option<u128>
+    requires small { AreSmallWays small.now }
+    requires things { rest + count < 2 ^ 64 }
     ensures { SomeIff result (ways rest count < 2 ^ 128) (ways rest count) }
 {
     let count = u64::from(count);
+    if rest < KEPT_WAYS && count < KEPT_WAYS {
+        return Some(u128::from(small_binomial(small, rest, count)));
+    }
     if rest < count {
         ways_by_steps(count, rest)
     } else {

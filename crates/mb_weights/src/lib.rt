@@ -7,6 +7,7 @@ mod binomial;
 mod laws;
 mod long_division;
 mod p_value;
+mod pascal;
 mod totals;
 mod weighing;
 

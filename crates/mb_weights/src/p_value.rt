@@ -5,9 +5,11 @@ ghost use Rattle.std.specs.Bool.{OnFalse, OnTrue};
 ghost use Rattle.mb_tables.specs.Lists.{In};
 ghost use Rattle.mb_weights.specs.PValue.{at_most, below_of, tables_in, whole_of};
 ghost use Rattle.mb_weights.specs.Weight.{weight_of};
+ghost use Rattle.mb_weights.specs.loops.SmallWays.{AreSmallWays};
 
 use crate::adding::Sum;
-use crate::weighing::weight;
+use crate::pascal::small_ways;
+use crate::weighing::weight_by;
 use mb_matrix::{Matrix, Measure};
 use mb_tables::Table;
 
@@ -35,6 +37,7 @@ fn add_at_most(below: &mut Sum, most: u128, w: u128)
 /// Adds the weight of a table to both sums, to the first only where it is at most so large. The
 /// answer is false exactly where the second would be 2^128 or more.
 fn add_table(
+    small: &[u64; 1024],
     matrix: &Matrix,
     measure: &Measure,
     most: u128,
@@ -42,6 +45,7 @@ fn add_table(
     below: &mut Sum,
     whole: &mut Sum,
 ) -> bool
+    requires small { AreSmallWays small.now }
     requires measure { length measure.now.bases ≡ length matrix.now.columns }
     requires table { length table.now ≡ length matrix.now.columns }
     requires part { below.old ≤ whole.old }
@@ -53,7 +57,7 @@ fn add_table(
     ensures passed { OnFalse result
         (2 ^ 128 ≤ whole.old + weight_of measure.now table.now) }
 {
-    match weight(matrix, measure, table) {
+    match weight_by(small, matrix, measure, table) {
         None => false,
         Some(w) => {
             if !whole.add(w) {
@@ -67,6 +71,7 @@ fn add_table(
 
 /// The same for each table of a ring.
 fn add_ring(
+    small: &[u64; 1024],
     matrix: &Matrix,
     measure: &Measure,
     most: u128,
@@ -74,6 +79,7 @@ fn add_ring(
     below: &mut Sum,
     whole: &mut Sum,
 ) -> bool
+    requires small { AreSmallWays small.now }
     requires measure { length measure.now.bases ≡ length matrix.now.columns }
     requires tables { All (λ table. length table ≡ length matrix.now.columns) ring.now }
     requires part { below.old ≤ whole.old }
@@ -84,7 +90,7 @@ fn add_ring(
     ensures passed { OnFalse result (2 ^ 128 ≤ whole.old + whole_of measure.now ring.now) }
 {
     for table in ring {
-        if !add_table(matrix, measure, most, table, below, whole) {
+        if !add_table(small, matrix, measure, most, table, below, whole) {
             return false;
         }
     }
@@ -115,11 +121,13 @@ pub fn fraction(
         × (found.whole < 2 ^ 128)) }
     ensures none { IfNone result (2 ^ 128 ≤ whole_of measure.now (tables_in rings.now)) }
 {
-    let most = weight(matrix, measure, observed)?;
+    let small = small_ways();
+    let most = weight_by(&small, matrix, measure, observed)?;
     let mut below = Sum::new();
     let mut whole = Sum::new();
     for ring in rings {
         if !add_ring(
+            &small,
             matrix,
             measure,
             most,

@@ -1,11 +1,10 @@
 //! The rings of small fibers, by several numbers of workers.
 
-use crate::models::{
-    PAIR_RINGS, certificate_of, first_of, have_sizes, matrix_of, ones_of, rings_by, table_of,
-};
+use crate::models::{PAIR_RINGS, first_of, have_sizes, ones_of, rings_by};
 use mb_certificate::Certificate;
 use mb_order::Order;
 use mb_outside::NoGate;
+use mb_samples::{certificate_of, matrix_of, table_of};
 use mb_tables::Table;
 use std::alloc::Global;
 use std::test::Fail;

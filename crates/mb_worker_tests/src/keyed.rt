@@ -1,41 +1,20 @@
 //! The walk by keys over shards of the caller's.
 
-ghost use Rattle.std.specs.Prelude.{◌≡◌, ◌<◌, ◌^◌, All, IfOk, [], length};
 ghost use Rattle.mb_claims.specs.Claims.{IsPassOf, IsRootOf};
-ghost use Rattle.mb_matrix.specs.Key.{Suits, digits_of};
-ghost use Rattle.mb_matrix.specs.Matrix.{IsMove, margins_of};
 
-use crate::models::{
-    DIAGONAL, DIAGONAL_RINGS, FOUR_BY_FOUR, are_moves, certificate_of, has_small_margins,
-    have_sizes, matrix_of, table_of,
-};
+use crate::models::{DIAGONAL, DIAGONAL_RINGS, FOUR_BY_FOUR, have_sizes};
 use mb_certificate::Certificate;
 use mb_claims::{Claim, Pass, Root, Shards};
 use mb_keyed::walk_on;
-use mb_matrix::{Keys, Matrix, Peel};
+use mb_matrix::Matrix;
 use mb_order::Order;
 use mb_outside::NoGate;
 use mb_rings::Rings;
+use mb_samples::{are_moves, certificate_of, has_small_margins, keys_for, matrix_of, table_of};
 use mb_tables::Table;
 use std::alloc::Global;
 use std::test::Fail;
 use std::thread::Threads;
-
-/// The keys of the fiber of a table.
-fn keys_for(alloc: Global, matrix: &Matrix, table: &Table) -> Result<Keys, Fail>
-    requires { length table.now ≡ length matrix.now.columns }
-    ensures digits { IfOk result (λ keys.
-        keys ≡ digits_of matrix.now (margins_of matrix.now table.now)) }
-    ensures suits { IfOk result (λ keys. Suits keys table.now) }
-{
-    let _cells = matrix.cols();
-    let peel = Peel::of(alloc, matrix)?;
-    let margins = matrix.margins(alloc, table)?;
-    match Keys::of(alloc, matrix, &peel, margins.as_slice())? {
-        None => Err(Fail::from("no keys")),
-        Some(keys) => Ok(keys),
-    }
-}
 
 /// Whether a pass has seen the keys of all tables of a ring.
 fn has_seen_ring(

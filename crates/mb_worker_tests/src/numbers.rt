@@ -3,15 +3,13 @@
 ghost use Rattle.std.specs.Prelude.{◌≡◌, IfOk};
 ghost use Rattle.mb_matrix.specs.Measure.{IsMeasureOf};
 
-use crate::models::{
-    DIAGONAL, DIAGONAL_RINGS, FOUR_BY_FOUR, certificate_of, counts_of, first_of, has_small_margins,
-    matrix_of, ones_of, table_of,
-};
+use crate::models::{DIAGONAL, DIAGONAL_RINGS, FOUR_BY_FOUR, first_of, ones_of};
 use mb_certificate::Certificate;
 use mb_desk::{Figures, numbers};
 use mb_matrix::{Matrix, Measure, Scale};
 use mb_order::Order;
 use mb_outside::NoGate;
+use mb_samples::{certificate_of, counts_of, has_small_margins, matrix_of, table_of};
 use mb_tables::Table;
 use std::alloc::Global;
 use std::test::Fail;

@@ -2,12 +2,14 @@
 use Rattle.std.specs.Prelude.{List, length, ℕ, ◌+◌, ◌<◌, ◌≡◌, ◌↔◌, ◌⊎◌}
 use Rattle.mb_claims.specs.Lists.{AreDistinct}
 use Rattle.mb_matrix.specs.Ascending.{Ascends}
-use Rattle.mb_matrix.specs.Key.{key_of}
+use Rattle.mb_matrix.specs.Key.{digits_of, key_of}
 use Rattle.mb_matrix.specs.Matrix.{Design, margins_of}
+use Rattle.mb_matrix.specs.Peel.{peel_of}
 use Rattle.mb_matrix.specs.declared.digit.Digit.{Digit}
+use Rattle.mb_matrix.specs.declared.peel.Peeled.{Peeled}
 use Rattle.mb_rings.specs.Claimed.{IsKeyOf}
-use Rattle.mb_rings.specs.declared.fault.WalkFault.{WalkFault}
 use Rattle.mb_rings.specs.declared.fault.WalkFault.TheVariants.{OutOfMemory, TooLarge}
+use Rattle.mb_rings.specs.declared.fault.WalkFault.{WalkFault}
 use Rattle.mb_tables.specs.Counts.{AreCounts}
 use Rattle.mb_tables.specs.Lists.{In}
 
@@ -29,10 +31,30 @@ IsKeyFault IsSought known room limit (TooLarge seen) =
     × (found : List ℕ) × AreNew IsSought known found × (room < length found)
 IsKeyFault IsSought known room limit OutOfMemory = Unit {0}
 
--- a table of the fiber of these margins, whose counts fit 32 bits
-pub record IsOfFiber (matrix : Design) (margins : List ℕ) (v : List ℕ) : Type 0 where
-  pub cells : length v ≡ length matrix.columns
-  pub same : margins_of matrix v ≡ margins
+-- a fiber: a matrix, and the margins of its tables
+pub record Fiber : Type 0 where
+  pub matrix : Design
+  pub margins : List ℕ
+
+-- the fiber of a start
+abbrev pub fiber_at : Design → List ℕ → Fiber
+fiber_at matrix start = record { matrix = matrix; margins = margins_of matrix start }
+
+-- the digits of a fiber's keys
+abbrev pub digits_in : Fiber → List Digit
+digits_in fiber = digits_of fiber.matrix fiber.margins
+
+-- what the tables of a fiber are read back from their keys with
+pub record IsKept (matrix : Design) (steps : List Peeled) (margins : List ℕ) (keys : List Digit)
+    : Type 0 where
+  pub peel : steps ≡ peel_of matrix
+  pub rows : length margins ≡ matrix.rows
+  pub digits : keys ≡ digits_of matrix margins
+
+-- a table of a fiber, whose counts fit 32 bits
+pub record IsOfFiber (fiber : Fiber) (v : List ℕ) : Type 0 where
+  pub cells : length v ≡ length fiber.matrix.columns
+  pub same : margins_of fiber.matrix v ≡ fiber.margins
   pub fits : AreCounts v
 
 -- the next ring, by keys: sought tables whose keys weren't gathered, in ascending order; their keys

@@ -2,9 +2,9 @@
 use Rattle.std.specs.Prelude.{All, List, false, reverse, ℕ, ℤ, ◌++◌, ◌<◌, ◌≡◌, ◌≤◌, ◌⊎◌}
 use Rattle.mb_claims.specs.Lists.{AreDistinct}
 use Rattle.mb_claims.specs.Notes.{IsNoted}
-use Rattle.mb_keyed.specs.loops.Worked.{keys_won, notes_made}
 use Rattle.mb_keyed.specs.declared.gathered.Left.{Left}
 use Rattle.mb_keyed.specs.declared.worker.Worker.{Worker}
+use Rattle.mb_keyed.specs.loops.Worked.{keys_in, keys_won, notes_made}
 use Rattle.mb_rings.specs.Ring.{Ring}
 use Rattle.mb_rings.specs.Share.{share_of}
 use Rattle.mb_tables.specs.Lists.{In}
@@ -24,7 +24,8 @@ IsNearBefore moves ring k n i end v = (w : ℕ) × (w < end) × IsNearShare move
 
 -- the worker's list has the keys that it won, unless it is short of memory
 abbrev pub IsListed : Worker → Type 0
-IsListed worker = worker.is_short ≡ false → reverse worker.found.items ≡ worker.pass.knows.won
+IsListed worker =
+    worker.is_short ≡ false → reverse (keys_in worker.found.items) ≡ worker.pass.knows.won
 
 -- the workers claimed the sought keys, and each listed those that it won
 pub record AreWorked (IsSought : ℕ → Type 0) (workers : List Worker) : Type 0 where

@@ -1,9 +1,10 @@
 -- What workers do with the tables of a ring: each claims the keys of the tables one step away.
 use Rattle.std.specs.List.{flat_map}
-use Rattle.std.specs.Prelude.{List, [], false, length, map, reverse, ℕ, ℤ, ◌≡◌, ◌≢◌, ◌⊎◌}
+use Rattle.std.specs.Prelude.{List, [], false, length, map, reverse, ℕ, ℤ, ◌≡◌, ◌≢◌, ◌⊎◌, ◌↔◌}
 use Rattle.mb_claims.specs.Claims.{IsPassOf, ShardWords}
 use Rattle.mb_claims.specs.Notes.{IsNoted, Keeps}
 use Rattle.mb_claims.specs.declared.views.Note.{Note}
+use Rattle.mb_keyed.specs.declared.ranked.Ranked.{Ranked}
 use Rattle.mb_keyed.specs.declared.worker.Worker.{Worker}
 use Rattle.mb_matrix.specs.Key.{Suits}
 use Rattle.mb_matrix.specs.declared.digit.Digit.{Digit}
@@ -23,6 +24,15 @@ pub record HasKeyedSteps (digits : List Digit) (width : ℕ) (moves : List (List
   pub suits : Suits digits u
   pub steps : (v : List ℕ) → OneApart moves u v → IsKeyed digits v
 
+-- the keys of a list with ranks
+abbrev pub keys_in : List Ranked → List ℕ
+keys_in found = map (λ r. r.key) found
+
+-- a list gains exactly the sought keys
+abbrev pub Gains : (ℕ → Type 0) → List Ranked → List Ranked → Type 0
+Gains IsSought before after =
+    (key : ℕ) → In key (keys_in after) ↔ (In key (keys_in before) ⊎ IsSought key)
+
 -- a worker claimed the sought keys: it won no others; each is noted unless something is left; and
 -- its list has the keys that it won, the last at the end, unless it is short of memory
 pub record Claims (IsSought : ℕ → Type 0) (before after : Worker) : Type 0 where
@@ -33,8 +43,8 @@ pub record Claims (IsSought : ℕ → Type 0) (before after : Worker) : Type 0 w
   pub told : after.is_left ≡ false → (before.is_left ≡ false)
       × ((key : ℕ) → IsSought key → IsNoted after.pass.knows.notes key)
   pub listed : after.is_short ≡ false → (before.is_short ≡ false)
-      × (reverse before.found.items ≡ before.pass.knows.won →
-      reverse after.found.items ≡ after.pass.knows.won)
+      × (reverse (keys_in before.found.items) ≡ before.pass.knows.won →
+      reverse (keys_in after.found.items) ≡ after.pass.knows.won)
 
 -- each key of a cache is noted; 0 is none
 abbrev pub AreCached : List Note → List ℕ → Type 0

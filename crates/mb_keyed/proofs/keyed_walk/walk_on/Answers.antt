@@ -16,6 +16,11 @@ unfolding In
 returns-in-Err-clause-reached g c key i =
     absurd (subst (λ (list : List ℕ). In key list) c.requires.empty i)
 
+pub returns-in-Err-first_ring-clause-reached : goal.returns-in-Err-first_ring-clause-reached
+unfolding In
+returns-in-Err-first_ring-clause-reached g c key i =
+    absurd (subst (λ (list : List ℕ). In key list) c.requires.empty i)
+
 pub key-requires : goal.key-requires
 key-requires g c =
     subst (λ (digits : List Digit). Suits digits c.args.start.now) (sym c.requires.keys)

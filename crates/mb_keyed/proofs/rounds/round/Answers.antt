@@ -1,41 +1,36 @@
-use Rattle.std.proofs.Common.{ap, arith, drop, length, take, ◌++◌, ◌∙◌, ◌≡◌}
-use Rattle.std.proofs.Math.Seq.{take-append_seam}
+use Rattle.std.proofs.Common.{arith}
 use Rattle.std.specs.List.{refill}
 use Rattle.mb_keyed.proofs.FoundSteps.{round-near}
+use Rattle.mb_keyed.proofs.LentLists.{refill-all}
 use Rattle.mb_keyed.proofs.RoundSteps.{round-done}
+use Rattle.mb_keyed.proofs.rounds.round.Given as given
 use Rattle.mb_keyed.proofs.rounds.round.Goals as goal
-use Rattle.mb_rings.specs.Claimed.{IsKeyOf}
-use Rattle.mb_tables.specs.Step.{IsNear}
+use Rattle.mb_keyed.proofs.rounds.round.Goals.{After-gather_all}
+use Rattle.mb_keyed.specs.loops.Graph.{IsKeyNear}
+use Rattle.mb_keyed.specs.loops.Rounds.{IsRound}
+use Rattle.mb_keyed.specs.loops.Worked.{keys_in}
 
-pub returns-clause-round : goal.returns-clause-round
-returns-clause-round g c =
+-- the round is done
+done : (g : given.Over) (c : After-gather_all g) →
+    IsRound (IsKeyNear c.args.graph.now c.args.ring.now) c.args.root.now.knows.gathered
+    c.gather_all.new.root.knows.gathered (keys_in c.args.found.now.items) (keys_in
+    c.gather_all.new.found.items) c.gather_all.result
+done g c =
     let items = c.in_ok-workers.workers.items in
     let new = c.work_all.new.workers in
-    let e : c.in_ok-workers.workers.len ≡ length new = omega arith in
-    let same : refill c.in_ok-workers.workers.len items new ≡ new =
-    ap (λ n. take n (new ++ drop (length new) items)) e
-    ∙ take-append_seam new (drop (length new) items) in
-    round-done (IsKeyOf c.args.keys.now (IsNear c.args.moves.now.rows c.args.ring.now))
-    c.args.root.now.knows.gathered c.args.found.now.items c.gather_all.new.found.items
-    c.open.new.root.knows c.gather_all.new.root.knows c.gather_all.result new
-    (refill c.in_ok-workers.workers.len items new) same c.work_all.ensures.worked c.open.ensures.gathered c.gather_all.ensures.gathered
-    c.gather_all.ensures.notes c.gather_all.ensures.closed c.gather_all.ensures.left
-    c.gather_all.ensures.found
+    round-done (IsKeyNear c.args.graph.now c.args.ring.now) c.args.root.now.knows.gathered
+    (keys_in c.args.found.now.items) (keys_in c.gather_all.new.found.items) c.open.new.root.knows
+    c.gather_all.new.root.knows c.gather_all.result new
+    (refill c.in_ok-workers.workers.len items new)
+    (refill-all c.in_ok-workers.workers.len items new (omega arith)) c.work_all.ensures.worked
+    c.open.ensures.gathered c.gather_all.ensures.gathered c.gather_all.ensures.notes
+    c.gather_all.ensures.closed c.gather_all.ensures.left c.gather_all.ensures.found
+
+pub returns-clause-round : goal.returns-clause-round
+returns-clause-round g c = done g c
 
 pub returns-clause-near : goal.returns-clause-near
 returns-clause-near g c =
-    let items = c.in_ok-workers.workers.items in
-    let new = c.work_all.new.workers in
-    let e : c.in_ok-workers.workers.len ≡ length new = omega arith in
-    let same : refill c.in_ok-workers.workers.len items new ≡ new =
-    ap (λ n. take n (new ++ drop (length new) items)) e
-    ∙ take-append_seam new (drop (length new) items) in
-    round-near (IsKeyOf c.args.keys.now (IsNear c.args.moves.now.rows c.args.ring.now))
-    c.args.root.now.knows.gathered c.gather_all.new.root.knows.gathered c.args.found.now.items
-    c.gather_all.new.found.items c.gather_all.result
-    (round-done (IsKeyOf c.args.keys.now (IsNear c.args.moves.now.rows c.args.ring.now))
-    c.args.root.now.knows.gathered c.args.found.now.items c.gather_all.new.found.items
-    c.open.new.root.knows c.gather_all.new.root.knows c.gather_all.result new
-    (refill c.in_ok-workers.workers.len items new) same c.work_all.ensures.worked c.open.ensures.gathered c.gather_all.ensures.gathered
-    c.gather_all.ensures.notes c.gather_all.ensures.closed c.gather_all.ensures.left
-    c.gather_all.ensures.found)
+    round-near (IsKeyNear c.args.graph.now c.args.ring.now) c.args.root.now.knows.gathered
+    c.gather_all.new.root.knows.gathered (keys_in c.args.found.now.items) (keys_in
+    c.gather_all.new.found.items) c.gather_all.result (done g c)

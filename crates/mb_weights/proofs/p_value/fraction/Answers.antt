@@ -21,8 +21,8 @@ returns-then-not-add_ring-clause-none c =
     let so_far = c.loop-ring.invariant.whole in
     omega (arith, passed)
 
-pub weight-requires-clause-table : goal.weight-requires-clause-table
-weight-requires-clause-table c =
+pub weight_by-requires-clause-table : goal.weight_by-requires-clause-table
+weight_by-requires-clause-table c =
     of_listed (λ table. length table ≡ length c.args.matrix.now.columns)
     (tables_in c.args.rings.now) c.args.observed.now c.requires.tables c.requires.listed
 

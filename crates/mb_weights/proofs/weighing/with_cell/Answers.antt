@@ -1,7 +1,7 @@
 use Rattle.std.proofs.Common.{arith, ◌*◌, ◌<◌, ◌^◌}
 use Rattle.std.proofs.Math.Nat.{one-le-pow}
 use Rattle.mb_weights.proofs.Binomials.{ways_above}
-use Rattle.mb_weights.proofs.CellFactors.{factor-none, factor_above, part_within}
+use Rattle.mb_weights.proofs.CellFactors.{factor-none, factor-one, factor_above, part_within}
 use Rattle.mb_weights.proofs.weighing.with_cell.Goals as goal
 use Rattle.mb_weights.specs.Binomial.{ways}
 use Rattle.mb_weights.specs.loops.Factors.{factor}
@@ -22,6 +22,13 @@ returns-in_err-chosen c =
     (factor_above c.args.rest c.args.base c.args.count c.requires.base) in
     let passed = c.in_err-chosen.ensures in
     rw c.from_residual.ensures (λ fits. passed (omega (arith, part.0, whole.1, fits)))
+
+pub returns-then-base-eq1 : goal.returns-then-base-eq1
+returns-then-base-eq1 c =
+    rw (
+      factor-one c.args.rest c.args.base c.args.count c.if-base-eq1.true,
+      ← c.in_ok-chosen.ensures.1,
+    ) c.times.ensures
 
 pub returns-in_err-power : goal.returns-in_err-power
 returns-in_err-power c =
