@@ -1,16 +1,18 @@
--- After a shard grew, each of its keys has a word: a claim that finds the shard full is impossible.
-use Rattle.std.proofs.Common.{List, [], ap, arith, get_or, inl, inr, length, refl, set, subst, suc, sum, sym, take, zero, ℕ, ◌*◌, ◌+◌, ◌-◌, ◌<◌, ◌∙◌, ◌∷◌, ◌≡◌, ◌≢◌, ◌≤◌, ◌⊎◌, ⊎_elim}
+-- After shards grew, each key has a word: a claim that finds its shard full is impossible.
+use Rattle.std.proofs.Common.{List, [], ap, arith, get_or, inl, inr, length, map, max, refl, set, subst, suc, sum, sym, take, zero, ℕ, ◌*◌, ◌+◌, ◌-◌, ◌<◌, ◌∙◌, ◌∷◌, ◌≡◌, ◌≢◌, ◌≤◌, ◌⊎◌, ⊎_elim}
 use Rattle.std.proofs.lemmas.Bool.{cases_eq, cases_order}
-use Rattle.std.proofs.lemmas.List.{get_or-set_other, get_or-set_same}
+use Rattle.std.proofs.lemmas.List.{get_or-map, length-map}
 use Rattle.std.proofs.lemmas.List.Sums.{sum_by_more}
 use Rattle.std.specs.Prelude.{◌↔◌}
 use Rattle.mb_claims.proofs.Pigeonhole.{fewer}
 use Rattle.mb_claims.proofs.ProbeSteps.{shard_there}
 use Rattle.mb_claims.proofs.RootKnows.{reached_at_home}
 use Rattle.mb_claims.specs.Closed.{IsClosed}
+use Rattle.mb_claims.specs.Limits.{most_words}
 use Rattle.mb_claims.specs.Notes.{IsCrowded, note}
 use Rattle.mb_claims.specs.Probe.{Holds, shard_of, start_of}
 use Rattle.mb_claims.specs.declared.views.RootView.{RootView}
+use Rattle.mb_claims.specs.loops.Parts.{AreSizes}
 use Rattle.mb_claims.specs.loops.Stored.{IsTold, Stores}
 use Rattle.mb_tables.specs.Lists.{In}
 
@@ -127,13 +129,17 @@ grown_keys old new words keys root stores closed sizes count larger known told k
       (told h.0 key h.1)),
 )
 
--- a doubled size is not below the old one, and the others are as they were
-pub doubled_larger : (sizes : List ℕ) (shard : ℕ) → shard < length sizes → (other : ℕ) →
-    get_or sizes other 0 ≤ get_or (set sizes shard (2 * get_or sizes shard 0)) other 0
-doubled_larger sizes shard l other = ⊎_elim
-    (λ (e : other ≡ shard).
-    subst (λ s. get_or sizes s 0 ≤ get_or (set sizes shard (2 * get_or sizes shard 0)) s 0) (sym e)
-    (let h = get_or-set_same sizes shard (2 * get_or sizes shard 0) 0 l in omega arith))
-    (λ ne.
-    let h = get_or-set_other sizes shard other (2 * get_or sizes shard 0) 0 ne in omega arith)
-    (cases_eq other shard)
+-- widened sizes are sizes, where none is widened past the most words
+pub widened_fit : (words : ℕ) (sizes : List ℕ) → words ≤ most_words → AreSizes sizes →
+    AreSizes (map (max words) sizes)
+widened_fit words sizes small fit =
+    let count : length (map (max words) sizes) ≡ length sizes = length-map sizes (max words) in
+    record {
+      some = omega (arith, count, fit.some);
+      few = omega (arith, count, fit.few);
+      each = λ shard l.
+          let there : shard < length sizes = omega arith in
+          let size = get_or-map (max words) sizes shard 0 0 there in
+          let old = fit.each shard there in
+          (omega (arith, size, old.0), omega (arith, size, old.1));
+    }

@@ -1,5 +1,5 @@
 -- What contracts see of shards, of a root and of a pass, and the answers of a claim.
-use Rattle.std.specs.Prelude.{List, [], slice_index, slice_set, ℕ, ◌*◌, ◌∷◌, ◌≡◌}
+use Rattle.std.specs.Prelude.{List, [], map, max, slice_index, slice_set, ℕ, ◌*◌, ◌∷◌, ◌≡◌}
 use Rattle.atomic_table.specs.Seated.{TableId}
 use Rattle.mb_claims.specs.Notes.{IsCrowded, IsNoted}
 use Rattle.mb_claims.specs.Probe.{shard_of}
@@ -38,6 +38,10 @@ IsNewRoot root = (root.opened ≡ []) × (root.gathered ≡ []) × (root.notes �
 -- the sizes, of which one is doubled
 abbrev pub doubled : List ℕ → ℕ → List ℕ
 doubled sizes shard = slice_set sizes shard (2 * slice_index sizes shard)
+
+-- the sizes, each of them at least so many words
+abbrev pub widened : ℕ → List ℕ → List ℕ
+widened words sizes = map (max words) sizes
 
 -- the answer to a claim of the key, by what the pass knew before and knows after: New where it won
 -- the key; Seen where it has a note of it; Full where each word of the key's shard holds another

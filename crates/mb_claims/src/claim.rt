@@ -74,6 +74,15 @@ impl Shards {
         Claim::Full { shard: home.shard }
     }
 
+    /// Reads the word where the probe path of a key begins, and tells nothing: a claim of the key soon
+    /// after has no wait for the memory. Reads of many words are under way at once, while an exchange
+    /// waits for the one before it. It is a step of no pass, and any thread may make it.
+    #[inline(always)]
+    pub fn prefetch(&self, key: u64) {
+        let home = self.home(key);
+        self.table.shared.peek(home.start + home.at);
+    }
+
     /// Where the probe path of a key begins.
     fn home(&self, key: u64) -> Home
         ensures shard { result.shard ≡ shard_of self.now.sizes key }
@@ -109,8 +118,12 @@ impl Shards {
     }
 }
 
-/// The remainder and the quotient of a key by the number of shards. Where there is one shard, as in
-/// most walks, two divisions are spared.
+/// The number of shards that a walk begins with.
+const USUAL_SHARDS: u64 = 13;
+
+/// The remainder and the quotient of a key by the number of shards. Where there is one shard two
+/// divisions are spared; where there are as many as usual the divisor is a constant, so that the
+/// compiler multiplies in place of dividing.
 #[inline(always)]
 fn divided(key: u64, shards: u64) -> (u64, u64)
     requires some { 1 ≤ shards }
@@ -119,6 +132,8 @@ fn divided(key: u64, shards: u64) -> (u64, u64)
 {
     if shards == 1 {
         (0, key)
+    } else if shards == USUAL_SHARDS {
+        (key % USUAL_SHARDS, key / USUAL_SHARDS)
     } else {
         (key % shards, key / shards)
     }

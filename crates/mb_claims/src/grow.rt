@@ -1,4 +1,5 @@
-//! A shard grows: new shards, in which one has twice the words and all keys are claimed anew.
+//! Shards grow: new shards, in which one has twice the words, or each at least so many, and all
+//! keys are claimed anew.
 
 ghost use Rattle.std.specs.Prelude.{
   ◌<◌,
@@ -17,11 +18,12 @@ ghost use Rattle.std.specs.Prelude.{
   slice_index,
   ℕ,
 };
-ghost use Rattle.mb_claims.specs.Claims.{IsPassOf, IsRootOf, doubled};
+ghost use Rattle.mb_claims.specs.Claims.{IsPassOf, IsRootOf, doubled, widened};
 ghost use Rattle.mb_claims.specs.Closed.{ClosesAll};
 ghost use Rattle.mb_claims.specs.Limits.{most_words};
 ghost use Rattle.mb_claims.specs.Notes.{Keeps};
 ghost use Rattle.mb_claims.specs.Probe.{Holds};
+ghost use Rattle.mb_claims.specs.loops.Parts.{AreSizes};
 ghost use Rattle.mb_claims.specs.loops.Stored.{IsTold};
 ghost use Rattle.mb_tables.specs.Lists.{In};
 
@@ -37,8 +39,8 @@ impl Shards {
     /// open. Every other shard keeps its size, the same keys are stored and gathered, and the root
     /// belongs to the new shards. Its notes are made anew, since keys have new places.
     ///
-    /// Only the new words take memory. They are made first, so that after a refusal the shards come
-    /// back, and they and the root are as they were.
+    /// Only the new sizes and words take memory. They are made first, so that after a refusal the
+    /// shards come back, and they and the root are as they were.
     pub fn grow(
         self,
         alloc: Global,
@@ -58,7 +60,62 @@ impl Shards {
         ensures back { IfErr result (λ refused. refused.0 ≡ self) }
         ensures same { OnErr result (root.new ≡ root.old) }
     {
-        match self.doubled(alloc, shard as usize) {
+        match self.doubled_sizes(alloc, shard as usize) {
+            Ok(sizes) => self.resized(alloc, root, sizes),
+            Err(e) => Err((self, e)),
+        }
+    }
+
+    /// The same set with at least so many words, at most 2,097,152, in each shard: one call in
+    /// place of a `grow` for each shard, and each key is claimed anew once. A shard that has as
+    /// many words or more keeps its size. All else is as with `grow`.
+    pub fn grow_to(
+        self,
+        alloc: Global,
+        root: &mut Root,
+        words: u32,
+    ) -> Result<Shards, (Shards, OutOfMemory)>
+        requires ours { IsRootOf self root.old }
+        requires none_open { root.old.knows.opened ≡ [] }
+        requires small { words ≤ most_words }
+        ensures sizes { IfOk result (λ grown. grown.sizes ≡ widened words self.sizes) }
+        ensures ours { IfOk result (λ grown. IsRootOf grown root.new) }
+        ensures keys { OnOk result ((key : ℕ) →
+            In key root.new.knows.gathered ↔ In key root.old.knows.gathered) }
+        ensures none_open { root.new.knows.opened ≡ [] }
+        ensures closed { OnOk result (ClosesAll root.new.knows) }
+        ensures back { IfErr result (λ refused. refused.0 ≡ self) }
+        ensures same { OnErr result (root.new ≡ root.old) }
+    {
+        match self.widened_sizes(alloc, words as usize) {
+            Ok(sizes) => self.resized(alloc, root, sizes),
+            Err(e) => Err((self, e)),
+        }
+    }
+
+    /// The same set with these sizes, of which none is below the old one.
+    fn resized(
+        self,
+        alloc: Global,
+        root: &mut Root,
+        sizes: Vec<usize>,
+    ) -> Result<Shards, (Shards, OutOfMemory)>
+        requires ours { IsRootOf self root.old }
+        requires none_open { root.old.knows.opened ≡ [] }
+        requires fit { AreSizes sizes.items }
+        requires count { length sizes.items ≡ length self.sizes }
+        requires larger { (shard : ℕ) →
+            slice_index self.sizes shard ≤ slice_index sizes.items shard }
+        ensures sizes { IfOk result (λ grown. grown.sizes ≡ sizes.items) }
+        ensures ours { IfOk result (λ grown. IsRootOf grown root.new) }
+        ensures keys { OnOk result ((key : ℕ) →
+            In key root.new.knows.gathered ↔ In key root.old.knows.gathered) }
+        ensures none_open { root.new.knows.opened ≡ [] }
+        ensures closed { OnOk result (ClosesAll root.new.knows) }
+        ensures back { IfErr result (λ refused. refused.0 ≡ self) }
+        ensures same { OnErr result (root.new ≡ root.old) }
+    {
+        match Shards::with_pass(alloc, sizes) {
             Ok((next, next_root, pass)) => {
                 let old = self.close(mem::replace(root, next_root));
                 next.refill(root, pass, old);
@@ -68,19 +125,16 @@ impl Shards {
         }
     }
 
-    /// New shards, all words 0, of which one has twice the words; and their root, which has opened
-    /// one pass.
-    fn doubled(&self, alloc: Global, shard: usize) -> Result<(Shards, Root, Pass), OutOfMemory>
-        requires there { shard < length self.now.sizes }
-        requires small { slice_index self.now.sizes shard ≤ most_words }
-        ensures sizes { IfOk result (λ made. made.0.sizes ≡ doubled self.now.sizes shard) }
+    /// New shards of these sizes, all words 0; and their root, which has opened one pass.
+    fn with_pass(alloc: Global, sizes: Vec<usize>) -> Result<(Shards, Root, Pass), OutOfMemory>
+        requires { AreSizes sizes.items }
+        ensures sizes { IfOk result (λ made. made.0.sizes ≡ sizes.items) }
         ensures ours { IfOk result (λ made. IsRootOf made.0 made.1 × IsPassOf made.0 made.2) }
         ensures root { IfOk result (λ made.
             (made.1.knows.opened ≡ made.2.knows.number ∷ [])
             × (made.1.knows.gathered ≡ []) × (made.1.knows.notes ≡ [])) }
         ensures pass { IfOk result (λ made. made.2.knows.won ≡ []) }
     {
-        let sizes = self.doubled_sizes(alloc, shard)?;
         let (next, mut root) = Shards::made(alloc, sizes)?;
         let pass = next.split(&mut root)?;
         Ok((next, root, pass))

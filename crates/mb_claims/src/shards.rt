@@ -16,7 +16,7 @@ ghost use Rattle.std.specs.Prelude.{
   ℕ,
 };
 ghost use Rattle.mb_claims.specs.ClaimStep.{begins, gathers, opens};
-ghost use Rattle.mb_claims.specs.Claims.{IsNewRoot, IsPassOf, IsRootOf, doubled};
+ghost use Rattle.mb_claims.specs.Claims.{IsNewRoot, IsPassOf, IsRootOf, doubled, widened};
 ghost use Rattle.mb_claims.specs.Closed.{ClosesAll};
 ghost use Rattle.mb_claims.specs.Limits.{most_shards, most_words};
 ghost use Rattle.mb_claims.specs.loops.Parts.{AreSizes, AreStarts};
@@ -143,6 +143,23 @@ impl Shards {
     {
         let mut sizes = Vec::from_slice(alloc, self.sizes.as_slice())?;
         sizes[shard] = 2 * sizes[shard];
+        Ok(sizes)
+    }
+
+    /// The sizes, each of them at least so many words.
+    pub(crate) fn widened_sizes(
+        &self,
+        alloc: Global,
+        words: usize,
+    ) -> Result<Vec<usize>, OutOfMemory>
+        requires { words ≤ most_words }
+        ensures widened { IfOk result (λ sizes. sizes.items ≡ widened words self.now.sizes) }
+        ensures fit { IfOk result (λ sizes. AreSizes sizes.items) }
+    {
+        let mut sizes = Vec::with_capacity(alloc, self.sizes.len())?;
+        for size in self.sizes.as_slice() {
+            sizes.push(words.max(*size))?;
+        }
         Ok(sizes)
     }
 

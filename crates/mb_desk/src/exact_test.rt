@@ -31,7 +31,7 @@ use mb_outside::Gate;
 use mb_rings::{Rings, WalkFault};
 use mb_tables::Table;
 use mb_walk::walk;
-use mb_weights::{Weighed, fraction};
+use mb_weights::{Weighed, fraction_by};
 use std::alloc::{AllocError, AllocFailed, Global};
 use std::thread::Threads;
 
@@ -130,25 +130,30 @@ fn walk_fiber<R: Threads + Sync, G: Gate + Sync>(
     }
 }
 
-/// The weight of the observed table and the sums over the rings of its fiber.
-fn weigh(
+/// The weight of the observed table and the sums over the rings of its fiber, by so many workers.
+fn weigh<R: Threads + Sync>(
+    rt: &R,
     certificate: &Certificate,
     measure: &Measure,
     observed: &Table,
     rings: &Rings,
+    workers: u32,
 ) -> Result<Weighed, NumbersFault>
     requires valid { IsValid certificate.now }
     requires cells { length observed.now ≡ length certificate.now.matrix.columns }
     requires measure { IsMeasureOf certificate.now.matrix measure.now }
     requires rings { rings.now.rings
         ≡ rings_of certificate.now.matrix certificate.now.moves observed.now }
+    requires some_worker { 1 ≤ workers }
+    requires few_workers { workers ≤ 64 }
     ensures fraction { Gives numbers_cause weighed_fraction result
         (narrow (exact_p_value certificate.now.matrix measure.now observed.now)) }
     ensures weight { IfOk result (λ w. w.weight ≡ weight_of measure.now observed.now) }
     ensures order { IfOk result (λ w.
         (1 ≤ w.weight) × (w.weight ≤ w.below) × (w.below ≤ w.whole)) }
 {
-    match fraction(certificate.matrix(), measure, observed, rings.all()) {
+    let matrix = certificate.matrix();
+    match fraction_by(rt, matrix, measure, observed, rings.all(), workers) {
         Some(weighed) => Ok(weighed),
         None => Err(NumbersFault::TooWide),
     }
@@ -213,7 +218,7 @@ pub fn numbers<R: Threads + Sync, G: Gate + Sync>(
     let _parts = certificate.matrix();
     accept(alloc, certificate)?;
     let rings = walk_fiber(rt, alloc, certificate, observed, limit, workers, gate)?;
-    let weighed = weigh(certificate, measure, observed, &rings)?;
+    let weighed = weigh(rt, certificate, measure, observed, &rings, workers)?;
     let sizes = sizes_of(alloc, &rings)?;
     Ok(Figures {
         rings: sizes,

@@ -8,7 +8,7 @@ use mb_desk::{Figures, NumbersFault, numbers};
 use mb_matrix::{Matrix, Measure, Scale};
 use mb_order::Order;
 use mb_outside::NoGate;
-use mb_samples::{certificate_of, has_small_margins, matrix_of};
+use mb_samples::{FOUR_BY_FOUR, certificate_of, has_small_margins, matrix_of};
 use mb_tables::Table;
 use std::alloc::Global;
 use std::test::Fail;
@@ -74,17 +74,6 @@ const THREE_WAY: &str = "12 8
 0 1 0 0 0 1 0 0
 0 0 1 0 0 0 1 0
 0 0 0 1 0 0 0 1";
-
-/// The independence of two factors of four levels.
-const FOUR_BY_FOUR: &str = "8 16
-1 1 1 1 0 0 0 0 0 0 0 0 0 0 0 0
-0 0 0 0 1 1 1 1 0 0 0 0 0 0 0 0
-0 0 0 0 0 0 0 0 1 1 1 1 0 0 0 0
-0 0 0 0 0 0 0 0 0 0 0 0 1 1 1 1
-1 0 0 0 1 0 0 0 1 0 0 0 1 0 0 0
-0 1 0 0 0 1 0 0 0 1 0 0 0 1 0 0
-0 0 1 0 0 0 1 0 0 0 1 0 0 0 1 0
-0 0 0 1 0 0 0 1 0 0 0 1 0 0 0 1";
 
 /// A ring of one table at each of 66 distances.
 const PATH: &[u32] = &[1; 66];

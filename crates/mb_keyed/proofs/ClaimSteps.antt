@@ -1,9 +1,9 @@
 -- What a worker claims, part by part.
-use Rattle.std.proofs.Common.{List, [], ap, false, inl, inr, refl, reverse, subst, sym, ℕ, ◌++◌, ◌∙◌, ◌∷◌, ◌≡◌, ◌⊎◌, ⊎_elim}
+use Rattle.std.proofs.Common.{List, [], ap, false, inl, inr, refl, reverse, subst, sym, ℕ, ◌++◌, ◌∙◌, ◌∷◌, ◌≡◌, ◌≢◌, ◌⊎◌, ⊎_elim}
 use Rattle.std.proofs.lemmas.List.{reverse-append}
 use Rattle.mb_claims.specs.Notes.{IsNoted, Keeps}
 use Rattle.mb_keyed.specs.declared.worker.Worker.{Worker}
-use Rattle.mb_keyed.specs.loops.Worked.{Claims, keys_in}
+use Rattle.mb_keyed.specs.loops.Worked.{AreCached, AreUnknown, Claims, keys_in}
 use Rattle.mb_tables.specs.Lists.{In}
 
 -- a list with one more in front
@@ -86,5 +86,24 @@ claims-same P Q before after to from f = record {
   notes = f.notes;
   won = λ k i. ⊎_elim (λ old. inl old) (λ p. inr (to k p)) (f.won k i);
   told = λ e. let t = f.told e in (t.0, λ k q. t.1 k (from k q));
+  listed = f.listed;
+}
+
+-- the keys that a cache didn't have were claimed, and the others are noted
+pub claims-known : (keys unknown : List ℕ) (before after : Worker) →
+    AreCached before.pass.knows.notes before.cache → AreUnknown before.cache keys unknown →
+    ((k : ℕ) → In k keys → k ≢ 0) → Claims (λ k. In k unknown) before after →
+    Claims (λ k. In k keys) before after
+claims-known keys unknown before after cached listed some f = record {
+  number = f.number;
+  notes = f.notes;
+  won = λ k i. ⊎_elim (λ old. inl old) (λ p. inr (listed.only k p)) (f.won k i);
+  told = λ e. let t = f.told e in (
+    t.0,
+    λ k i. ⊎_elim
+        (λ there. let n = cached k there (some k i) in (n.0, f.notes _ n.1))
+        (λ j. t.1 k j)
+        (listed.known k i),
+  );
   listed = f.listed;
 }

@@ -11,6 +11,7 @@ ghost use Rattle.std.specs.Prelude.{
   IfErr,
   IfNone,
   IfOk,
+  IfSome,
   List,
   OnOk,
   [],
@@ -31,6 +32,7 @@ ghost use Rattle.mb_tables.specs.Step.{IsNear};
 use crate::keyed_graph::KeyedGraph;
 use crate::ranked::Ranked;
 use crate::rounds::round;
+use crate::shard_words::words_for;
 use mb_claims::{MOST_WORDS, Root, Shards};
 use mb_outside::Gate;
 use mb_rings::WalkFault;
@@ -132,22 +134,36 @@ fn grow_full(
     (shards, Ok(()))
 }
 
-/// The shards that are to grow before a ring is expanded, one bit each, where so many keys are
-/// stored: those with less than two words a key, as long as a shard may grow. A table of words takes
-/// its memory three times while it is made, the most that a walk takes beside its tables, so a walk
-/// of up to a million tables should need none but the first.
-fn tight_shards(shards: &Shards, stored: u64) -> u64 {
-    let mut tight = 0;
-    for shard in 0..shards.len() {
-        let words = u64::from(shards.words(shard)) * u64::from(shards.len());
-        if words < stored.saturating_mul(2) {
-            tight |= 1 << shard;
-        }
+/// The fewest words of a shard.
+fn fewest_words(shards: &Shards) -> u32 {
+    let count = shards.len();
+    let mut fewest = shards.words(0);
+    for shard in 1..count {
+        fewest = fewest.min(shards.words(shard));
     }
-    tight
+    fewest
 }
 
-/// Shards grow until there are two words for each of so many keys, as long as they may.
+/// How many words each shard is to have before a ring is expanded, where so many keys are stored; none
+/// where they are enough. There should be five for every four keys. All shards grow at once, since
+/// each time all keys are claimed anew, and the words take their memory three times while they are
+/// made, the most that a walk takes beside its tables. A walk of up to a million tables should need
+/// none but the first.
+fn wanted_words(shards: &Shards, stored: u64) -> Option<u32>
+    ensures some { IfSome result (λ words. 1 ≤ words) }
+    ensures most { IfSome result (λ words. words ≤ most_words) }
+{
+    let share = stored / u64::from(shards.len());
+    let fewest = fewest_words(shards);
+    let words = words_for(share.saturating_mul(5) / 2);
+    if u64::from(fewest) * 4 < share.saturating_mul(5) && fewest < words {
+        Some(words)
+    } else {
+        None
+    }
+}
+
+/// All shards grow where so many keys are stored that words are wanting.
 fn make_room(
     alloc: Global,
     shards: Shards,
@@ -161,19 +177,13 @@ fn make_room(
     ensures keys { (key : ℕ) →
         In key root.new.knows.gathered ↔ In key root.old.knows.gathered }
 {
-    let mut shards = shards;
-    for _ in 0..22 {
-        let tight = tight_shards(&shards, stored);
-        if tight == 0 {
-            return (shards, Ok(()));
-        }
-        let (grown, outcome) = grow_full(alloc, shards, root, tight);
-        shards = grown;
-        if outcome.is_err() {
-            return (shards, outcome);
-        }
+    match wanted_words(&shards, stored) {
+        None => (shards, Ok(())),
+        Some(words) => match shards.grow_to(alloc, root, words) {
+            Ok(grown) => (grown, Ok(())),
+            Err((same, e)) => (same, Err(e)),
+        },
     }
-    (shards, Ok(()))
 }
 
 /// Claims the keys one step from a ring: the answer lists those that are new. The shards come back,

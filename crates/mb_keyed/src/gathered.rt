@@ -22,11 +22,16 @@ pub struct Left {
     pub full: u64,
 }
 
-/// Adds keys to a list, and tells whether memory was wanting.
-fn is_short_for(found: &mut Vec<Ranked>, keys: &[Ranked]) -> bool
-    ensures { result ≡ false → found.new.items ≡ found.old.items ++ keys.now }
+/// Adds keys to a list, and tells whether memory was wanting. A list that is empty becomes that of
+/// the keys, so that one worker's keys aren't copied.
+fn is_short_for(found: &mut Vec<Ranked>, keys: Vec<Ranked>) -> bool
+    ensures { result ≡ false → found.new.items ≡ found.old.items ++ keys.items }
 {
-    found.extend_from_slice(keys).is_err()
+    if found.is_empty() {
+        *found = keys;
+        return false;
+    }
+    found.extend_from_slice(keys.as_slice()).is_err()
 }
 
 /// Gathers the passes of all workers, the last first, and adds the keys that they won to a list.
@@ -68,7 +73,7 @@ pub fn gather_all(
             full,
         } = worker;
         shards.gather(root, pass);
-        let is_lost = is_short_for(found, keys.as_slice());
+        let is_lost = is_short_for(found, keys);
         left = Left {
             is_left: left.is_left | is_left,
             is_short: left.is_short | is_short | is_lost,

@@ -5,6 +5,7 @@
 mod cache;
 mod claimed_ring;
 mod gathered;
+mod key_totals;
 mod keyed_fiber;
 mod keyed_graph;
 mod keyed_ring;
@@ -15,8 +16,11 @@ mod opened;
 mod ranked;
 mod ring_tables;
 mod rounds;
+mod shard_words;
 mod shares;
 mod step_list;
 mod worker;
 
+pub use key_totals::key_total;
 pub use keyed_walk::walk_on;
+pub use shard_words::words_for;

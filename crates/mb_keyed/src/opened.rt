@@ -6,21 +6,22 @@ ghost use Rattle.mb_claims.specs.Claims.{IsRootOf};
 ghost use Rattle.mb_keyed.specs.loops.Worked.{AreCached, IsIdle, IsWorkerOf, numbers};
 ghost use Rattle.mb_tables.specs.Lists.{In};
 
-use crate::cache::cache_for;
+use crate::cache::Cache;
 use crate::worker::Worker;
 use mb_claims::{Pass, Root, Shards};
 use mb_tables::OutOfMemory;
 use std::alloc::Global;
 
-/// One of so many workers, with this pass, that has claimed nothing, for a ring of so many tables.
-fn worker_of(alloc: Global, pass: Pass, tables: usize, count: u32) -> Worker
+/// One of so many workers, with this pass, that has claimed nothing, for a ring of so many tables
+/// whose steps lead to keys below 2^32, where these are narrow.
+fn worker_of(alloc: Global, pass: Pass, tables: usize, count: u32, is_narrow: bool) -> Worker
     ensures pass { result.pass ≡ pass }
-    ensures cached { AreCached result.pass.knows.notes result.cache.items }
+    ensures cached { AreCached result.pass.knows.notes result.cache }
     ensures found { result.found.items ≡ [] }
 {
     Worker {
         pass,
-        cache: cache_for(alloc, tables, count as usize),
+        cache: Cache::new(alloc, tables, count as usize, is_narrow),
         found: Vec::new(alloc),
         is_left: false,
         is_short: false,
@@ -29,13 +30,14 @@ fn worker_of(alloc: Global, pass: Pass, tables: usize, count: u32) -> Worker
 }
 
 /// So many workers for a ring of so many tables, or fewer where passes are refused, but one at
-/// least.
+/// least. Where the keys are narrow, below 2^32, their caches are half as large.
 pub fn open(
     alloc: Global,
     shards: &Shards,
     root: &mut Root,
     count: u32,
     tables: usize,
+    is_narrow: bool,
 ) -> Result<Vec<Worker>, OutOfMemory>
     requires root_ours { IsRootOf shards.now root.old }
     requires none_open { root.old.knows.opened ≡ [] }
@@ -51,7 +53,7 @@ pub fn open(
     let mut workers = Vec::with_capacity(alloc, count as usize)?;
     for _ in 0..count {
         if let Ok(pass) = shards.split(root) {
-            workers.push_reserved(worker_of(alloc, pass, tables, count));
+            workers.push_reserved(worker_of(alloc, pass, tables, count, is_narrow));
         }
     }
     if workers.is_empty() {

@@ -38,6 +38,7 @@ ghost use Rattle.mb_tables.specs.Lists.{In};
 ghost use Rattle.mb_tables.specs.Step.{IsNear};
 
 use crate::gathered::{Left, gather_all};
+use crate::key_totals::key_total;
 use crate::keyed_graph::KeyedGraph;
 use crate::opened::open;
 use crate::ranked::Ranked;
@@ -223,7 +224,8 @@ pub fn round<R: Threads + Sync, G: Gate + Sync>(
     ensures same { OnErr result (found.new.items ≡ found.old.items) }
 {
     let passes = count.min(ring.len() as u32).max(1);
-    let mut workers = open(alloc, shards, root, passes, ring.len())?;
+    let is_narrow = key_total(graph.keys().digits()) < 1 << 32;
+    let mut workers = open(alloc, shards, root, passes, ring.len(), is_narrow)?;
     let count = count as usize;
     let list = workers.as_mut_slice();
     work_all(rt, shards, graph, ring, earlier, room, count, gate, list);

@@ -26,6 +26,7 @@ fn expand_table<G: Gate>(
     room: usize,
     gate: &G,
     near: &mut Vec<Ranked>,
+    unknown: &mut Vec<Ranked>,
     worker: &mut Worker,
 )
     requires ours { IsWorkerOf shards.now worker.old }
@@ -48,7 +49,7 @@ fn expand_table<G: Gate>(
         worker.is_left = true;
         return;
     }
-    claim_keys(shards, near.as_slice(), worker);
+    claim_keys(shards, near.as_slice(), unknown, worker);
 }
 
 /// Expands the tables of a share: the worker passes the gate before each, and claims the keys of
@@ -70,11 +71,22 @@ pub fn expand_share<G: Gate>(
     ensures claimed { Claims (IsKeyNear graph.now share.now)
         worker.old worker.new }
 {
-    let mut near = Vec::new(*worker.found.allocator());
+    let alloc = *worker.found.allocator();
+    let mut near = Vec::new(alloc);
+    let mut unknown = Vec::new(alloc);
     for (place, table) in share.iter().enumerate() {
         let item = first + place as u64;
         expand_table(
-            shards, graph, table, number, item, room, gate, &mut near, worker,
+            shards,
+            graph,
+            table,
+            number,
+            item,
+            room,
+            gate,
+            &mut near,
+            &mut unknown,
+            worker,
         );
     }
 }

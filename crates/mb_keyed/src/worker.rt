@@ -1,23 +1,24 @@
 //! A worker of one ring: the pass by which it claims keys, and what it found.
 
 ghost use Rattle.std.specs.Bool.{OnTrue};
-ghost use Rattle.std.specs.Prelude.{◌++◌, ◌∷◌, ◌≡◌, ◌≢◌, [], false, ℕ};
+ghost use Rattle.std.specs.Prelude.{◌++◌, ◌∷◌, ◌≡◌, ◌≢◌, OnOk, [], false, ℕ};
 ghost use Rattle.mb_claims.specs.Claims.{IsPassOf};
 ghost use Rattle.mb_claims.specs.Notes.{IsNoted};
-ghost use Rattle.mb_keyed.specs.loops.Worked.{Claims, IsWorkerOf, keys_in};
+ghost use Rattle.mb_keyed.specs.loops.Worked.{AreUnknown, Claims, IsWorkerOf, keys_in};
 ghost use Rattle.mb_tables.specs.Lists.{In};
 
-use crate::cache::{is_cached, place_of, remember};
+use crate::cache::Cache;
 use crate::ranked::Ranked;
 use mb_claims::{Claim, Pass, Shards};
+use mb_tables::OutOfMemory;
 
 /// A worker of one ring. One element holds all that a thread changes.
 #[derive(Drop)]
 pub struct Worker {
     /// The view by which it claims.
     pub pass: Pass,
-    /// Keys that its pass knows to be stored, each at its place; 0 where there is none.
-    pub cache: Vec<u64>,
+    /// Keys that its pass knows to be stored.
+    pub cache: Cache,
     /// The keys that its pass won, in the order in which it won them.
     pub found: Vec<Ranked>,
     /// Whether it may have left a key that isn't stored.
@@ -72,31 +73,70 @@ fn claim_shared(shards: &Shards, worker: &mut Worker, key: u64, rank: u64) -> bo
     }
 }
 
-/// Claims the key of a table of this rank. Most keys are met many times: one that stands in the
-/// worker's cache needs no look at the shared words.
+/// Claims the key of a table of this rank, and remembers it.
 fn claim_key(shards: &Shards, worker: &mut Worker, key: u64, rank: u64)
     requires ours { IsWorkerOf shards.now worker.old }
     requires key { key ≢ 0 }
     ensures ours { IsWorkerOf shards.now worker.new }
     ensures claimed { Claims (λ k. k ≡ key) worker.old worker.new }
 {
-    let at = place_of(rank, worker.cache.len());
-    if is_cached(worker.cache.as_slice(), at, key) {
-        return;
-    }
     if claim_shared(shards, worker, key, rank) {
-        remember(worker.cache.as_mut_slice(), at, key);
+        worker.cache.remember(rank, key);
     }
 }
 
 /// Claims these keys, one after the other.
-pub fn claim_keys(shards: &Shards, near: &[Ranked], worker: &mut Worker)
+fn claim_all(shards: &Shards, keys: &[Ranked], worker: &mut Worker)
+    requires ours { IsWorkerOf shards.now worker.old }
+    requires some { (key : ℕ) → In key (keys_in keys.now) → key ≢ 0 }
+    ensures ours { IsWorkerOf shards.now worker.new }
+    ensures claimed { Claims (λ key. In key (keys_in keys.now)) worker.old worker.new }
+{
+    for one in keys {
+        claim_key(shards, worker, one.key, one.rank);
+    }
+}
+
+/// Lists those of some keys that the worker's cache doesn't have, in place of what the list had.
+fn list_unknown(
+    near: &[Ranked],
+    worker: &Worker,
+    unknown: &mut Vec<Ranked>,
+) -> Result<(), OutOfMemory>
+    ensures { OnOk result
+        (AreUnknown worker.now.cache (keys_in near.now) (keys_in unknown.new.items)) }
+{
+    unknown.clear();
+    for one in near {
+        if !worker.cache.has(one.rank, one.key) {
+            unknown.push(*one)?;
+        }
+    }
+    Ok(())
+}
+
+/// Has the words read with which the claims of these keys begin.
+fn prefetch_all(shards: &Shards, keys: &[Ranked]) {
+    for one in keys {
+        shards.prefetch(one.key);
+    }
+}
+
+/// Claims some keys. Most are met many times: one that stands in the worker's cache needs no look at
+/// the shared words. The others are listed, so that the waits for their words overlap; where memory is
+/// wanting for that, all are left.
+pub fn claim_keys(shards: &Shards, near: &[Ranked], unknown: &mut Vec<Ranked>, worker: &mut Worker)
     requires ours { IsWorkerOf shards.now worker.old }
     requires some { (key : ℕ) → In key (keys_in near.now) → key ≢ 0 }
     ensures ours { IsWorkerOf shards.now worker.new }
     ensures claimed { Claims (λ key. In key (keys_in near.now)) worker.old worker.new }
 {
-    for one in near {
-        claim_key(shards, worker, one.key, one.rank);
+    if list_unknown(near, worker, unknown).is_err() {
+        worker.is_short = true;
+        worker.is_left = true;
+        return;
     }
+    let keys = unknown.as_slice();
+    prefetch_all(shards, keys);
+    claim_all(shards, keys, worker);
 }

@@ -13,6 +13,17 @@ use mb_tables::{Moves, Table};
 use std::alloc::Global;
 use std::test::Fail;
 
+/// The independence of two factors of four levels.
+pub const FOUR_BY_FOUR: &str = "8 16
+1 1 1 1 0 0 0 0 0 0 0 0 0 0 0 0
+0 0 0 0 1 1 1 1 0 0 0 0 0 0 0 0
+0 0 0 0 0 0 0 0 1 1 1 1 0 0 0 0
+0 0 0 0 0 0 0 0 0 0 0 0 1 1 1 1
+1 0 0 0 1 0 0 0 1 0 0 0 1 0 0 0
+0 1 0 0 0 1 0 0 0 1 0 0 0 1 0 0
+0 0 1 0 0 0 1 0 0 0 1 0 0 0 1 0
+0 0 0 1 0 0 0 1 0 0 0 1 0 0 0 1";
+
 /// The design matrix of a text.
 pub fn matrix_of(alloc: Global, text: &str) -> Result<Matrix, Fail> {
     let Ok(grid) = read_matrix(alloc, text.as_bytes()) else {

@@ -7,6 +7,7 @@ ghost use Rattle.mb_matrix.specs.Matrix.{IsMove, margins_of};
 use mb_matrix::Matrix;
 use mb_outside::{Gate, NoGate};
 use mb_rings::WalkFault;
+use mb_samples::has_small_margins;
 use mb_tables::{MOST_MOVES, Move, Moves, Table};
 use mb_walk::walk;
 use std::alloc::{AllocError, Global};
@@ -48,17 +49,6 @@ fn differences(alloc: Global, matrix: &Matrix) -> Result<Moves, AllocError>
         push_move(alloc, matrix, &mut moves, entries.as_slice());
     }
     Ok(moves)
-}
-
-/// Whether each margin of a table fits 32 bits.
-fn has_small_margins(alloc: Global, matrix: &Matrix, table: &Table) -> bool
-    requires { length table.now ≡ length matrix.now.columns }
-    ensures { OnTrue result (All (λ margin. margin < 2 ^ 32) (margins_of matrix.now table.now)) }
-{
-    match matrix.margins(alloc, table) {
-        Ok(margins) => margins.iter().all(|margin| *margin < 4_294_967_296),
-        Err(_) => false,
-    }
 }
 
 /// What a walk answers.

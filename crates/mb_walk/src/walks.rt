@@ -2,7 +2,7 @@
 
 ghost use Rattle.std.specs.Option.{SomeIff};
 ghost use Rattle.std.specs.Prelude.{◌≡◌, ◌<◌, ◌≤◌, ◌^◌, All, IfOk, length};
-ghost use Rattle.mb_claims.specs.Limits.{most_words};
+ghost use Rattle.mb_claims.specs.Limits.{most_shards, most_words};
 ghost use Rattle.mb_matrix.specs.Key.{digits_of, key_count};
 ghost use Rattle.mb_matrix.specs.Matrix.{IsMove, margins_of};
 ghost use Rattle.mb_rings.specs.Walk.{most_tables, walk_cause, walk_of};
@@ -11,44 +11,37 @@ ghost use Rattle.mb_tables.specs.Answers.{Gives};
 
 use crate::breadth_first::walk_alone;
 use crate::owned_walk::walk_by_tables;
-use mb_claims::Shards;
-use mb_keyed::walk_on;
-use mb_matrix::{Digit, Keys, Matrix, Peel};
+use mb_claims::{MOST_WORDS, Shards};
+use mb_keyed::{key_total, walk_on, words_for};
+use mb_matrix::{Keys, Matrix, Peel};
 use mb_outside::Gate;
 use mb_rings::{Rings, WalkFault};
 use mb_tables::{Moves, OutOfMemory, Table};
 use std::alloc::Global;
 use std::thread::Threads;
 
-/// How many keys these digits make, or the greatest number of 64 bits where there are more.
-fn key_total(digits: &[Digit]) -> u64 {
-    let mut total = 1u64;
-    for digit in digits {
-        total = total.saturating_mul(digit.bound.saturating_add(1));
-    }
-    total
-}
+/// How many shards a walk begins with.
+const FIRST_SHARDS: u32 = 13;
 
-/// The words of the one shard with which a walk begins: four for each table of the limit, but no
-/// more than 2,000,003; and no more than there are keys, and one.
+/// The tables for which a walk has words at its beginning, where its limit is larger.
+const FORESEEN: u32 = 1_000_000;
+
+/// How many shards a walk begins with, and how many words each has: in all three for every two tables
+/// of the limit, or of a million where it is larger.
 ///
-/// The place of a key is what is left of it by the number of words. The least significant cells make
-/// dense runs of keys, which lie on each other where that number is close to a multiple of a place
-/// value, a power of 9 as it may be. So it is a prime where the limit is large, and odd else. Where
-/// there are few keys, each is its own place.
-fn first_words(limit: u32, keys: u64) -> u32
-    ensures some { 1 ≤ result }
-    ensures most { result ≤ most_words }
+/// There are some shards, and a prime number of them, since one step after another changes a key by
+/// little: then neighbouring keys lie apart. Where there are few keys, each is its own place in one
+/// shard.
+fn first_shards(limit: u32, keys: u64) -> (u32, u32)
+    ensures shards { (1 ≤ result.0) × (result.0 ≤ most_shards) }
+    ensures words { (1 ≤ result.1) × (result.1 ≤ most_words) }
 {
-    let words = if limit < 500_000 {
-        4 * limit + 1
+    let total = u64::from(limit.min(FORESEEN)) * 3 / 2;
+    let words = words_for(total / u64::from(FIRST_SHARDS));
+    if keys < u64::from(MOST_WORDS.min(FIRST_SHARDS * words)) {
+        (1, keys as u32 + 1)
     } else {
-        2_000_003
-    };
-    if keys < u64::from(words) {
-        keys as u32 + 1
-    } else {
-        words
+        (FIRST_SHARDS, words)
     }
 }
 
@@ -90,8 +83,8 @@ fn walk_by_keys<R: Threads + Sync, G: Gate + Sync>(
         (walk_of limit matrix.now moves.now.rows start.now) }
     ensures claims { IfOk result (AreClaims keys.now) }
 {
-    let words = first_words(limit, key_total(keys.digits()));
-    let (shards, mut root) = Shards::try_new(alloc, 1, words)?;
+    let (shards, words) = first_shards(limit, key_total(keys.digits()));
+    let (shards, mut root) = Shards::try_new(alloc, shards, words)?;
     match walk_on(
         rt, alloc, matrix, moves, start, keys, shards, &mut root, limit, workers, gate,
     ) {

@@ -21,6 +21,17 @@ fn first_other(shards: &Shards, pass: &mut Pass, claims: &[(u64, Claim)]) -> Opt
     None
 }
 
+/// Whether each shard has so many words.
+fn all_have(shards: &Shards, words: u32) -> bool {
+    let count = shards.len();
+    for shard in 0..count {
+        if shards.words(shard) != words {
+            return false;
+        }
+    }
+    true
+}
+
 /// How many of the keys 1 to 1,000 a pass is answered so, and the pass.
 fn count(shards: &Shards, mut pass: Pass, answer: Claim) -> (u64, Pass)
     requires ours { IsPassOf shards.now pass }
@@ -70,6 +81,65 @@ fn each_key_has_its_shard(rt: HostRuntime) -> Result<(), Fail> {
         (64, Claim::Seen),
     ];
     assert!(rt; first_other(&shards, &mut pass, &claims).is_none());
+    Ok(())
+}
+
+// By hand: 13 is the number of shards whose divisions are by a constant.
+#[test]
+fn each_of_thirteen_shards(rt: HostRuntime) -> Result<(), Fail> {
+    let (shards, mut root) = Shards::try_new(rt.alloc(), 13, 2)?;
+    let mut pass = shards.split(&mut root)?;
+    let claims = [
+        (13, Claim::New),
+        (39, Claim::New),
+        (26, Claim::Full { shard: 0 }),
+        (12, Claim::New),
+        (25, Claim::New),
+        (38, Claim::Full { shard: 12 }),
+        (18_446_744_073_709_551_615, Claim::New),
+        (2, Claim::New),
+        (15, Claim::Full { shard: 2 }),
+        (39, Claim::Seen),
+    ];
+    assert!(rt; first_other(&shards, &mut pass, &claims).is_none());
+    Ok(())
+}
+
+// By hand: three shards of one word, of which the first grows to two words, and then all of them.
+#[test]
+fn all_shards_grow_at_once(rt: HostRuntime) -> Result<(), Fail> {
+    let (shards, mut root) = Shards::try_new(rt.alloc(), 3, 1)?;
+    let mut pass = shards.split(&mut root)?;
+    let first = [
+        (3, Claim::New),
+        (4, Claim::New),
+        (5, Claim::New),
+        (7, Claim::Full { shard: 1 }),
+    ];
+    assert!(rt; first_other(&shards, &mut pass, &first).is_none());
+    shards.gather(&mut root, pass);
+    let Ok(grown) = shards.grow(rt.alloc(), &mut root, 0) else {
+        panic!(rt; "no memory")
+    };
+    let Ok(wide) = grown.grow_to(rt.alloc(), &mut root, 2) else {
+        panic!(rt; "no memory")
+    };
+    assert!(rt; all_have(&wide, 2));
+    let Ok(same) = wide.grow_to(rt.alloc(), &mut root, 1) else {
+        panic!(rt; "no memory")
+    };
+    assert!(rt; all_have(&same, 2));
+    let mut pass = same.split(&mut root)?;
+    let then = [
+        (3, Claim::Seen),
+        (4, Claim::Seen),
+        (5, Claim::Seen),
+        (6, Claim::New),
+        (7, Claim::New),
+        (8, Claim::New),
+        (9, Claim::Full { shard: 0 }),
+    ];
+    assert!(rt; first_other(&same, &mut pass, &then).is_none());
     Ok(())
 }
 

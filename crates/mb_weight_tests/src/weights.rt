@@ -1,15 +1,18 @@
 //! Weights, sums of weights, fractions and decimals, beside the plain model in
 //! tests/outside/weight_model.
 
-ghost use Rattle.std.specs.Prelude.{◌≡◌, ◌++◌, ◌∷◌, All, IfOk, [], length};
-ghost use Rattle.mb_weights.specs.PValue.{tables_in};
+ghost use Rattle.std.specs.Bool.{OnTrue};
+ghost use Rattle.std.specs.Prelude.{◌≡◌, ◌≤◌, ◌++◌, ◌∷◌, All, IfOk, [], length};
+ghost use Rattle.mb_tables.specs.Lists.{In};
+ghost use Rattle.mb_weights.specs.PValue.{AreSmall, tables_in};
 
 use crate::weight_cases::{DECIMALS, FRACTIONS, WEIGHTS};
 use mb_matrix::{Matrix, Measure, Scale};
 use mb_tables::Table;
-use mb_weights::{Sum, decimals, fraction, weight};
+use mb_weights::{Sum, Weighed, decimals, fraction, fraction_by, weight};
 use std::alloc::Global;
 use std::test::Fail;
+use std::thread::Threads;
 
 /// A table under a measure, and its weight.
 #[derive(Clone, Copy)]
@@ -164,8 +167,51 @@ fn rings_of(
     Ok(rings)
 }
 
-/// What is found of a case: the observed table is in a ring of its own, and the others are in two.
-fn weighed(alloc: Global, case: &Fiber) -> Result<Option<(u128, u128, u128)>, Fail> {
+/// Whether each ring has at most 1,000 tables.
+fn are_small(rings: &[Vec<Table>]) -> bool
+    ensures { OnTrue result (AreSmall rings.now) }
+{
+    for ring in rings {
+        if ring.len() > 1_000 {
+            return false;
+        }
+    }
+    true
+}
+
+/// What is found by so many workers, or by no thread but this one where there are 0.
+fn found_by<R: Threads + Sync>(
+    rt: &R,
+    matrix: &Matrix,
+    measure: &Measure,
+    observed: &Table,
+    rings: &[Vec<Table>],
+    workers: u32,
+) -> Option<Weighed>
+    requires measure { length measure.now.bases ≡ length matrix.now.columns }
+    requires tables { All (λ table. length table ≡ length matrix.now.columns)
+        (tables_in rings.now) }
+    requires listed { In observed.now (tables_in rings.now) }
+    requires small { AreSmall rings.now }
+    requires few_workers { workers ≤ 64 }
+{
+    if workers == 0 {
+        fraction(matrix, measure, observed, rings)
+    } else {
+        fraction_by(rt, matrix, measure, observed, rings, workers)
+    }
+}
+
+/// What is found of a case by so many workers: the observed table is in a ring of its own, and the
+/// others are in two.
+fn weighed<R: Threads + Sync>(
+    rt: &R,
+    alloc: Global,
+    case: &Fiber,
+    workers: u32,
+) -> Result<Option<(u128, u128, u128)>, Fail>
+    requires { workers ≤ 64 }
+{
     let matrix = matrix_of(alloc, case.groups)?;
     let measure = measure_of(alloc, &matrix, case.bases, 0)?;
     let cells = matrix.cols() as usize;
@@ -182,14 +228,33 @@ fn weighed(alloc: Global, case: &Fiber) -> Result<Option<(u128, u128, u128)>, Fa
     let near = ring_of(alloc, cells as u32, near)?;
     let far = ring_of(alloc, cells as u32, far)?;
     let rings = rings_of(alloc, &observed, near, far)?;
-    let found = fraction(&matrix, &measure, &observed, rings.as_slice());
+    let rings = rings.as_slice();
+    if !are_small(rings) {
+        return Err(Fail::from("too many tables"));
+    }
+    let found = found_by(rt, &matrix, &measure, &observed, rings, workers);
     Ok(found.map(|found| (found.weight, found.below, found.whole)))
 }
 
+/// Whether the observed weight and the sums of a case are those that are found, by 0 to 3
+/// workers and by 64.
+fn is_weighed<R: Threads + Sync>(rt: &R, alloc: Global, case: &Fiber) -> Result<bool, Fail> {
+    for workers in 0..4u32 {
+        if weighed(rt, alloc, case, workers)? != case.weighed {
+            return Ok(false);
+        }
+    }
+    Ok(weighed(rt, alloc, case, 64)? == case.weighed)
+}
+
 /// The first case whose observed weight and sums aren't those that are found.
-fn first_wrong_fiber(alloc: Global, cases: &[Fiber]) -> Result<Option<usize>, Fail> {
+fn first_wrong_fiber<R: Threads + Sync>(
+    rt: &R,
+    alloc: Global,
+    cases: &[Fiber],
+) -> Result<Option<usize>, Fail> {
     for (k, case) in cases.iter().enumerate() {
-        if weighed(alloc, case)? != case.weighed {
+        if !is_weighed(rt, alloc, case)? {
             return Ok(Some(k));
         }
     }
@@ -199,7 +264,7 @@ fn first_wrong_fiber(alloc: Global, cases: &[Fiber]) -> Result<Option<usize>, Fa
 // Whole fibers, worked and random, and lists of tables whose weights add up to 2^128 and just not.
 #[test]
 fn fractions(rt: HostRuntime) -> Result<(), Fail> {
-    assert_eq!(rt; first_wrong_fiber(rt.alloc(), &FRACTIONS)?, None);
+    assert_eq!(rt; first_wrong_fiber(&rt, rt.alloc(), &FRACTIONS)?, None);
     Ok(())
 }
 

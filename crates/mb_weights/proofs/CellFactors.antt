@@ -1,7 +1,7 @@
 -- The weight of a table as a product of factors, a cell each.
 use Rattle.std.proofs.Common.{All, IfSome, List, None, Option, Some, SomeIff, [], add-one, ap, arith, cond, drop, drop-cons, inl, inr, length, refl, suc, sum, sym, zero, ℕ, ◌*◌, ◌+◌, ◌-◌, ◌<◌, ◌==◌, ◌^◌, ◌∙◌, ◌∷◌, ◌≡◌, ◌≤◌}
 use Rattle.std.proofs.Math.ListN.{drop_of_length-le}
-use Rattle.std.proofs.Math.Nat.{mul-le-mul, mul_assoc, one-le-pow, pow-suc, pow-zero}
+use Rattle.std.proofs.Math.Nat.{mul-le-mul, one-le-pow, pow-suc, pow-zero}
 use Rattle.std.proofs.lemmas.Bool.{cases_eq, eq-eqb, ne_eqb}
 use Rattle.std.proofs.lemmas.List.Elements.{All-drop, All-head, All-tail}
 use Rattle.std.proofs.lemmas.List.Sums.{sum_by-cons}

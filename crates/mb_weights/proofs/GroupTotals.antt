@@ -7,7 +7,6 @@ use Rattle.std.proofs.lemmas.List.Elements.{All-drop, All-head, All-tail}
 use Rattle.mb_tables.specs.Counts.{AreCounts}
 use Rattle.mb_tables.specs.Vectors.{at}
 use Rattle.mb_weights.proofs.CellFactors.{in_group-nil, total_of-cons}
-use Rattle.mb_weights.specs.Weight.{in_group}
 use Rattle.mb_weights.specs.loops.Factors.{AreTotals, kept_groups, total_from, total_of}
 
 -- the total from a cell on is its count, where it is of the group, and the total of the later ones

@@ -4,6 +4,8 @@ pub mod CellFactors
 pub mod GroupTotals
 pub mod LongDivision
 pub mod Multinomials
+pub mod SharedTables
 pub mod SmallWays
+pub mod SummedParts
 pub mod SummedTables
 pub mod TableOrders

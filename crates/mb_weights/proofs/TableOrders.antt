@@ -1,5 +1,5 @@
 -- Tables that are listed in another order.
-use Rattle.std.proofs.Common.{Bool, List, [], ap, arith, cond, false, get_or, inl, inr, length, nat_eq, nat_le, refl, subst, suc, sym, true, zero, ℕ, ◌+◌, ◌<◌, ◌∙◌, ◌∷◌, ◌≡◌, ◌≤◌, ◌↔◌, ◌⊎◌}
+use Rattle.std.proofs.Common.{Bool, List, [], ap, arith, cond, false, get_or, inl, inr, length, nat_eq, nat_le, refl, suc, sym, true, ℕ, ◌+◌, ◌<◌, ◌∙◌, ◌∷◌, ◌≡◌, ◌≤◌, ◌↔◌, ◌⊎◌}
 use Rattle.std.proofs.lemmas.Bool.{cases_Bool}
 use Rattle.std.proofs.lemmas.List.Sorted.{IsPermutation-cons, IsPermutation-refl, IsPermutation-remove, IsPermutation-sym, IsPermutation-trans, sum_by-IsPermutation, sum_by_popped}
 use Rattle.std.proofs.lemmas.List.Sums.{sum_by-cons}
@@ -11,7 +11,7 @@ use Rattle.mb_matrix.specs.Ascending.{occurrences}
 use Rattle.mb_matrix.specs.Measure.{Weighting}
 use Rattle.mb_tables.proofs.StepTests.{In-from_stands_in, stands_in-yes}
 use Rattle.mb_tables.specs.Lists.{In, stands_in}
-use Rattle.mb_weights.specs.PValue.{at_most, below_of, whole_of}
+use Rattle.mb_weights.specs.PValue.{below_of, whole_of}
 use Rattle.mb_weights.specs.Weight.{weight_of}
 
 -- the sum over all tables

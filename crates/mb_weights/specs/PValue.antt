@@ -1,6 +1,6 @@
 -- The exact p-value of a contingency table, as a fraction of summed weights.
 use Rattle.std.specs.List.{filter, flat_map, sum_by}
-use Rattle.std.specs.Prelude.{List, Vec, nat_le, ℕ}
+use Rattle.std.specs.Prelude.{All, List, Vec, length, nat_le, ℕ, ◌<◌, ◌^◌}
 use Rattle.std.specs.declared.alloc.Global.{Global}
 use Rattle.mb_matrix.specs.Matrix.{Design, fiber_of}
 use Rattle.mb_matrix.specs.Measure.{Weighting}
@@ -40,3 +40,7 @@ exact_p_value matrix measure u =
 -- all tables of some rings, ring after ring
 abbrev pub tables_in : List (Vec (List ℕ) Global) → List (List ℕ)
 tables_in rings = flat_map (λ ring. ring.items) rings
+
+-- each ring has fewer than 2^32 tables
+abbrev pub AreSmall : List (Vec (List ℕ) Global) → Type 0
+AreSmall rings = All (λ (ring : Vec (List ℕ) Global). length ring.items < 2 ^ 32) rings

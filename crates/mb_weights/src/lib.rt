@@ -8,6 +8,9 @@ mod laws;
 mod long_division;
 mod p_value;
 mod pascal;
+mod shared_sums;
+mod sums;
+mod table_sums;
 mod totals;
 mod weighing;
 
@@ -17,5 +20,5 @@ pub use laws::{
     sums_ignore_order, weight_by_factorials, weights_are_positive,
 };
 pub use long_division::decimals;
-pub use p_value::{Weighed, fraction};
+pub use p_value::{Weighed, fraction, fraction_by};
 pub use weighing::weight;

@@ -2,7 +2,7 @@
 
 ghost use Rattle.mb_claims.specs.Claims.{IsPassOf, IsRootOf};
 
-use crate::models::{DIAGONAL, DIAGONAL_RINGS, FOUR_BY_FOUR, have_sizes};
+use crate::models::{DIAGONAL, DIAGONAL_RINGS, have_sizes};
 use mb_certificate::Certificate;
 use mb_claims::{Claim, Pass, Root, Shards};
 use mb_keyed::walk_on;
@@ -10,7 +10,9 @@ use mb_matrix::Matrix;
 use mb_order::Order;
 use mb_outside::NoGate;
 use mb_rings::Rings;
-use mb_samples::{are_moves, certificate_of, has_small_margins, keys_for, matrix_of, table_of};
+use mb_samples::{
+    FOUR_BY_FOUR, are_moves, certificate_of, has_small_margins, keys_for, matrix_of, table_of,
+};
 use mb_tables::Table;
 use std::alloc::Global;
 use std::test::Fail;

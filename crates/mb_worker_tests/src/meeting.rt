@@ -1,12 +1,12 @@
 //! Two workers of a walk run at once.
 
 use crate::models::{
-    DIAGONAL, DIAGONAL_RINGS, FOUR_BY_FOUR, PAIR_RINGS, first_of, have_sizes, ones_of, rings_by,
+    DIAGONAL, DIAGONAL_RINGS, PAIR_RINGS, first_of, have_sizes, ones_of, rings_by,
 };
 use mb_matrix::Matrix;
 use mb_order::Order;
 use mb_outside::Gate;
-use mb_samples::{certificate_of, matrix_of, table_of};
+use mb_samples::{FOUR_BY_FOUR, certificate_of, matrix_of, table_of};
 use mb_tables::Table;
 use std::alloc::Global;
 use std::sync::atomic::AtomicBool;

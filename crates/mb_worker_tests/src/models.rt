@@ -11,17 +11,6 @@ use std::alloc::Global;
 use std::test::Fail;
 use std::thread::Threads;
 
-/// The independence of two factors of four levels.
-pub(crate) const FOUR_BY_FOUR: &str = "8 16
-1 1 1 1 0 0 0 0 0 0 0 0 0 0 0 0
-0 0 0 0 1 1 1 1 0 0 0 0 0 0 0 0
-0 0 0 0 0 0 0 0 1 1 1 1 0 0 0 0
-0 0 0 0 0 0 0 0 0 0 0 0 1 1 1 1
-1 0 0 0 1 0 0 0 1 0 0 0 1 0 0 0
-0 1 0 0 0 1 0 0 0 1 0 0 0 1 0 0
-0 0 1 0 0 0 1 0 0 0 1 0 0 0 1 0
-0 0 0 1 0 0 0 1 0 0 0 1 0 0 0 1";
-
 /// 3 in each diagonal cell of a 4 x 4 table, and else 0.
 pub(crate) const DIAGONAL: &str = "3 0 0 0 0 3 0 0 0 0 3 0 0 0 0 3";
 

@@ -3,13 +3,13 @@
 ghost use Rattle.std.specs.Prelude.{◌≡◌, IfOk};
 ghost use Rattle.mb_matrix.specs.Measure.{IsMeasureOf};
 
-use crate::models::{DIAGONAL, DIAGONAL_RINGS, FOUR_BY_FOUR, first_of, ones_of};
+use crate::models::{DIAGONAL, DIAGONAL_RINGS, first_of, ones_of};
 use mb_certificate::Certificate;
 use mb_desk::{Figures, numbers};
 use mb_matrix::{Matrix, Measure, Scale};
 use mb_order::Order;
 use mb_outside::NoGate;
-use mb_samples::{certificate_of, counts_of, has_small_margins, matrix_of, table_of};
+use mb_samples::{FOUR_BY_FOUR, certificate_of, counts_of, has_small_margins, matrix_of, table_of};
 use mb_tables::Table;
 use std::alloc::Global;
 use std::test::Fail;
@@ -121,6 +121,34 @@ fn the_diagonal(rt: HostRuntime) -> Result<(), Fail> {
     let table = table_of(alloc, DIAGONAL)?;
     let scale = Scale::Rows(counts_of(alloc, "1 2 3 4")?);
     let other = first_other(rt, alloc, &matrix, scale, &table, &wanted, &[1, 2, 7, 64])?;
+    assert_eq!(rt; other, None);
+    Ok(())
+}
+
+// Worked: only the total is kept, so there are C(20, 3) tables, which together weigh 18^3, and 18 of
+// them weigh 1. A move takes 1 from the last cell or adds it there: each of the three is one step away
+// in the last cell and two in another. The keys are past 32 bits, since 4^17 is 2^34.
+#[test]
+fn eighteen_cells(rt: HostRuntime) -> Result<(), Fail> {
+    let (rt, alloc) = (&rt, rt.alloc());
+    let wanted = Wanted {
+        rings: "1 1 17 17 152 136 816",
+        weight: 1,
+        below: 18,
+        whole: 5832,
+        is_claimed: true,
+    };
+    let matrix = ones_of(alloc, 18)?;
+    let table = first_of(alloc, 18, 3)?;
+    let other = first_other(
+        rt,
+        alloc,
+        &matrix,
+        Scale::All,
+        &table,
+        &wanted,
+        &[1, 2, 7, 64],
+    )?;
     assert_eq!(rt; other, None);
     Ok(())
 }

@@ -50,10 +50,15 @@ pub record Claims (IsSought : ℕ → Type 0) (before after : Worker) : Type 0 w
 abbrev pub AreCached : List Note → List ℕ → Type 0
 AreCached notes cache = (key : ℕ) → In key cache → key ≢ 0 → IsNoted notes key
 
+-- of some keys, those that a cache doesn't have are listed, and maybe others of them
+pub record AreUnknown (cache keys unknown : List ℕ) : Type 0 where
+  pub only : (key : ℕ) → In key unknown → In key keys
+  pub known : (key : ℕ) → In key keys → In key cache ⊎ In key unknown
+
 -- the worker's pass belongs to the shards, and the keys of its cache are known to the pass
 abbrev pub IsWorkerOf : ShardWords → Worker → Type 0
 IsWorkerOf shards worker =
-    IsPassOf shards worker.pass × AreCached worker.pass.knows.notes worker.cache.items
+    IsPassOf shards worker.pass × AreCached worker.pass.knows.notes worker.cache
 
 -- the worker has claimed nothing yet
 pub record IsIdle (worker : Worker) : Type 0 where

@@ -1,5 +1,5 @@
 -- The weight as a product of factors, a cell each, from the last cell to the first.
-use Rattle.std.specs.Prelude.{List, [], drop, length, sum, ℕ, ◌*◌, ◌+◌, ◌<◌, ◌^◌, ◌∷◌, ◌≡◌}
+use Rattle.std.specs.Prelude.{List, [], drop, length, sum, ℕ, ◌*◌, ◌<◌, ◌^◌, ◌∷◌, ◌≡◌}
 use Rattle.mb_tables.specs.Vectors.{at}
 use Rattle.mb_weights.specs.Binomial.{ways}
 use Rattle.mb_weights.specs.Weight.{in_group}

@@ -1,4 +1,4 @@
-use Rattle.std.proofs.Common.{List, Some, ap, arith, inr, refl, ◌++◌, ◌∙◌}
+use Rattle.std.proofs.Common.{Some, ap, arith, inr, refl, ◌∙◌}
 use Rattle.std.proofs.lemmas.List.Elements.{All-pop}
 use Rattle.std.proofs.lemmas.List.{map-append}
 use Rattle.mb_keyed.proofs.GatherSteps.{gathered_closed, gathered_more, gathered_opened}
@@ -23,8 +23,7 @@ loop-worker-preserved c = (
       (All-pop IsListed c.loop-worker.workers.items c.pop.new.self.items (Some c.in-Some.worker)
       c.in-Some.ensures.items c.loop-worker.invariant.2).1
       refl refl
-      (λ e. ap keys_in (c.is_short_for-is_lost.ensures e
-      ∙ ap (λ (l : List Ranked). c.loop-worker.found.items ++ l) c.as_slice.ensures.value)
+      (λ e. ap keys_in (c.is_short_for-is_lost.ensures e)
       ∙ map-append (λ (r : Ranked). r.key) c.loop-worker.found.items c.in-Some.worker.found.items),
   inr c.gather.ensures.closed,
 )

@@ -1,4 +1,4 @@
-use Rattle.std.proofs.Common.{arith, ◌*◌, ◌<◌, ◌^◌}
+use Rattle.std.proofs.Common.{arith, ◌^◌}
 use Rattle.std.proofs.Math.Nat.{one-le-pow}
 use Rattle.mb_weights.proofs.Binomials.{ways_above}
 use Rattle.mb_weights.proofs.CellFactors.{factor-none, factor-one, factor_above, part_within}

@@ -1,4 +1,4 @@
-use Rattle.std.proofs.Common.{arith, ◌%◌}
+use Rattle.std.proofs.Common.{arith}
 use Rattle.std.proofs.lemmas.Nat.{mod_below}
 use Rattle.mb_claims.proofs.ProbeSteps.{home_ends}
 use Rattle.mb_claims.proofs.shards.Shards.home.Goals as goal
