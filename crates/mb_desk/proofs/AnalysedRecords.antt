@@ -1,11 +1,10 @@
 -- The records of an analysis, looked up one after the other.
-use Rattle.std.proofs.Common.{Err, List, Ok, Option, Result, ap, false, subst, ℕ, ◌≡◌}
+use Rattle.std.proofs.Common.{Err, List, Ok, Option, Result, false, subst, ℕ, ◌≡◌}
 use Rattle.mb_certificate.specs.Certificate.{Certificate}
 use Rattle.mb_data.specs.CrossTable.{CrossTable}
 use Rattle.mb_desk.proofs.Steps.{goes_rows, stops_rows, then_rows}
-use Rattle.mb_desk.proofs.Told.{weakened}
 use Rattle.mb_desk.specs.AnalyseCommand.{modelled, records_named, report_named, reported}
-use Rattle.mb_desk.specs.Decision.{Decided, DoesRows, Follows, blames}
+use Rattle.mb_desk.specs.Decision.{DoesRows, Follows, blames}
 use Rattle.mb_desk.specs.Recorded.{found}
 use Rattle.mb_desk.specs.declared.commands.analyse.Records.{Records}
 use Rattle.mb_desk.specs.declared.plans.Stop.{Stop}
@@ -14,18 +13,6 @@ use Rattle.mb_kinds.specs.Model.{ModelValue}
 use Rattle.mb_outside.specs.Rows.{Rows}
 use Rattle.mb_registry.specs.Looking.{basis_named, dataset_named, model_named}
 use Rattle.mb_tables.specs.Answers.{◌>>=◌}
-
--- a step whose value is used in another step that computes
-pub maps_rows : {A B : Type 0} (before after : Option Rows) (n m : ℕ) (x : A)
-    (decide : Rows → Decided A) (make : A → B) →
-    DoesRows {A = A} before after n m (Ok x) decide →
-    DoesRows {A = B} before after n m (Ok (make x)) (λ rows. decide rows >>= λ y. Ok (make y))
-maps_rows before after n m x decide make does = record {
-  decided = weakened _ _ before after
-      (λ rows _ follows. ap (λ d. d >>= λ y. Ok (make y)) follows) does.decided;
-  same = does.same;
-  cause = does.cause;
-}
 
 module _ (before between after : Option Rows) (n m k : ℕ) (name text dataset : List ℕ)
     (model : ModelValue) (same : text ≡ dataset)
@@ -41,20 +28,6 @@ module _ (before between after : Option Rows) (n m k : ℕ) (name text dataset :
       (stops_rows between after m k stop (found (dataset_named dataset))
       (λ rows table. Ok (dataset, model, table))
       (subst (λ t. DoesRows {A = CrossTable} between after m k (Err stop) (found (dataset_named t)))
-      same second))
-
-  -- and where it is
-  pub dataset-found : (table : CrossTable) →
-      DoesRows {A = CrossTable} between after m k (Ok table) (found (dataset_named text)) →
-      DoesRows {A = List ℕ × ModelValue × CrossTable} before after n k (Ok (dataset, model, table))
-      (modelled name)
-  dataset-found table second =
-      goes_rows before between after n m k (dataset, model) (Ok (dataset, model, table))
-      (found (model_named name))
-      (λ pair rows. found (dataset_named pair.0) rows >>= λ table. Ok (pair.0, pair.1, table)) first
-      (maps_rows between after m k table (found (dataset_named dataset))
-      (λ table. (dataset, model, table))
-      (subst (λ t. DoesRows {A = CrossTable} between after m k (Ok table) (found (dataset_named t)))
       same second))
 
 -- the records of these parts
@@ -81,19 +54,6 @@ module _ (before between after : Option Rows) (n m k : ℕ) (name text model : L
       (stops_rows between after m k stop (modelled model)
       (λ rows parts. Ok (of_parts (model, certificate) parts))
       (subst (λ t. DoesRows {A = List ℕ × ModelValue × CrossTable} between after m k (Err stop)
-      (modelled t)) same second))
-
-  -- and where both are
-  pub model-found : (parts : List ℕ × ModelValue × CrossTable) →
-      DoesRows {A = List ℕ × ModelValue × CrossTable} between after m k (Ok parts) (modelled text) →
-      DoesRows {A = Records} before after n k (Ok (of_parts (model, certificate) parts))
-      (records_named name)
-  model-found parts second =
-      goes_rows before between after n m k (model, certificate)
-      (Ok (of_parts (model, certificate) parts)) (found (basis_named name))
-      (λ proved rows. modelled proved.0 rows >>= λ parts. Ok (of_parts proved parts)) first
-      (maps_rows between after m k parts (modelled model) (of_parts (model, certificate))
-      (subst (λ t. DoesRows {A = List ℕ × ModelValue × CrossTable} between after m k (Ok parts)
       (modelled t)) same second))
 
 -- the report on records that were found

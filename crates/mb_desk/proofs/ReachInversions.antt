@@ -18,6 +18,7 @@ use Rattle.mb_desk.specs.ReachCommand.{designed, reach_rings, table_of, texts_ri
 use Rattle.mb_desk.specs.declared.refusals.Refusal.TheVariants.{NotATable}
 use Rattle.mb_desk.specs.declared.requests.ReachWords.{ReachWords}
 use Rattle.mb_matrix.proofs.RowsAndColumns.{length-columns}
+use Rattle.mb_matrix.specs.Ascending.{occurrences}
 use Rattle.mb_matrix.specs.Matrix.{Design, IsDesign, IsMove, design_of, fiber_of}
 use Rattle.mb_moves.proofs.AcceptedTexts.{array_taken}
 use Rattle.mb_moves.specs.GridText.{matrix_of, moves_of}
@@ -25,9 +26,11 @@ use Rattle.mb_moves.specs.TableText.{are_counts, only_row, table_in}
 use Rattle.mb_moves.specs.declared.table_text.NoTable.TheVariants as tables
 use Rattle.mb_outside.specs.Files.{Held}
 use Rattle.mb_reports.specs.RingTable.{ring_table_of}
+use Rattle.mb_rings.proofs.DistinctTables.{occurrences-distinct}
 use Rattle.mb_rings.proofs.FiberSteps.{fiber-ascends, fiber-closed, fiber-start}
 use Rattle.mb_rings.proofs.Reaching.{reaches_joined}
 use Rattle.mb_rings.proofs.RingDistances.{rings-distance}
+use Rattle.mb_rings.proofs.RingEnds.{reached-distinct}
 use Rattle.mb_rings.specs.Ring.{Ring, rings_of, tables_of}
 use Rattle.mb_rings.specs.Walk.{walk_of, within_limit}
 use Rattle.mb_rings.specs.declared.fault.WalkFault.{WalkFault}
@@ -203,6 +206,7 @@ record IsReach (matrix moves : Rows) (table : List ℕ) (rings : List Ring) : Ty
   design : IsDesign (design_of matrix)
   distance : HasDistances moves.rows table rings
   joined : (v : List ℕ) → In v (tables_of rings) ↔ Joined moves.rows table v
+  once : (v : List ℕ) → In v (tables_of rings) → occurrences v (tables_of rings) ≡ 1
 
 -- the rings of a design matrix, its moves and a table
 reach_ok : (matrix moves : Rows) (table : List ℕ) (rings : List Ring) →
@@ -221,6 +225,12 @@ reach_ok matrix moves table rings sound each long found =
       joined = subst
           (λ rings. (v : List ℕ) → In v (tables_of rings) ↔ Joined moves.rows table v) found
           (reaches_joined design sound moves.rows each table long);
+      once = subst
+          (λ rings. (v : List ℕ) → In v (tables_of rings) → occurrences v (tables_of rings) ≡ 1)
+          found
+          (λ v. occurrences-distinct v (tables_of (rings_of design moves.rows table))
+          (reached-distinct (fiber_of design table) moves.rows table
+          (fiber-ascends design sound table) (fiber-start design sound table long)));
     }
 
 -- the same of texts
@@ -273,6 +283,7 @@ finds_rings held words rings e =
       each = w.walk.judged.each;
       distance = is.distance;
       joined = is.joined;
+      once = is.once;
       few = w.walk.few;
       printed = refl;
     }

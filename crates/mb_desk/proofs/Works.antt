@@ -1,13 +1,13 @@
 -- A plan and then its change: how the work of a request ends.
-use Rattle.std.proofs.Common.{Bool, Err, false, true, List, None, Ok, Option, Result, Some, ap, arith, inl, inr, refl, subst, sym, ℕ, ◌∙◌, ◌≡◌, ◌⊎◌}
+use Rattle.std.proofs.Common.{Bool, Err, false, true, List, None, Ok, Option, Some, ap, arith, inl, inr, refl, subst, sym, ℕ, ◌∙◌, ◌≡◌, ◌⊎◌}
 use Rattle.std.specs.FinMap.{empty}
 use Rattle.mb_desk.proofs.EachCommand.{plan_fits}
 use Rattle.mb_desk.proofs.Making.{Made, Makes, file_blamed, makes}
-use Rattle.mb_desk.proofs.Told.{after_same, both_told, told_by, weakened}
+use Rattle.mb_desk.proofs.Told.{after_same, both_told, told_by}
 use Rattle.mb_desk.specs.Changes.{ChangesRows, FilesLeft, KeeperLeft, RowsLeft, WritesFile, changed_rows}
 use Rattle.mb_desk.specs.Commands.{needs_of, plan_of}
 use Rattle.mb_desk.specs.Decision.{Decided, Does, Follows, HaveCause, HaveStayed, InWorld, Scene, blames}
-use Rattle.mb_desk.specs.Ends.{Commits, EachLeft, Ended, Ends, Leaves, Stays}
+use Rattle.mb_desk.specs.Ends.{Commits, EachLeft, Ended, Ends, Leaves}
 use Rattle.mb_desk.specs.Needs.{Both, FilesAlone, Needs, Neither, RowsAlone, Touches, needed, needed_files, needed_rows, told_or}
 use Rattle.mb_desk.specs.World.{World, world_of}
 use Rattle.mb_desk.specs.declared.plans.Change.{Change}
@@ -178,16 +178,6 @@ rows_needed Neither (Replaces entries) f0 f1 before after made touches files lef
 rows_needed Neither (Writes file body) f0 f1 before after made touches files left keeper =
     absurd touches
 
--- what is decided over no world is decided over each
-pub does_alone : {A : Type 0} (s : Scene) (answer : Result A Stop) (decided : Decided A) →
-    Follows answer decided → blames answer ≡ false → Does s s answer (λ w. decided)
-does_alone s answer decided follows own = record {
-  decided = told_by (λ w _. Follows answer decided) (world_of s.files s.rows) (λ w. follows);
-  files = refl;
-  rows = told_by (λ b a. a ≡ b) s.rows (λ rows. refl);
-  cause = subst (λ blamed. HaveCause s s blamed) (sym own) (refl, refl);
-}
-
 -- a fact of the work, from one of its plan and what the change of the plan makes of the world
 pub of_work : (request : Request) (before between after : Scene) (plan : Plan) (made : Made)
     (First Whole : World → World → Type 0) →
@@ -253,55 +243,6 @@ stopped before after decide stop does = record {
       (stopped_leaves (decide w) w (Rose before.files_failed after.files_failed) stop follows));
   cause = does.cause;
 }
-
--- a change that is refused, or lacks memory, leaves the files
-files_stay : (change : Change) (before after : Option Held) (made : Made) →
-    FilesLeft change before after made → Stays made (after ≡ before)
-files_stay change before after (Ok _) left = tt
-files_stay change before after (Err Outside) left = tt
-files_stay Nothing before after (Err Memory) left = left.0
-files_stay (Adds kind name body) before after (Err Memory) left = left
-files_stay (Removes kind name) before after (Err Memory) left = left
-files_stay (Replaces entries) before after (Err Memory) left = left
-files_stay (Writes file body) before after (Err Memory) left = left
-files_stay Nothing before after (Err (Refused refusal)) left = left.0
-files_stay (Adds kind name body) before after (Err (Refused refusal)) left = left
-files_stay (Removes kind name) before after (Err (Refused refusal)) left = left
-files_stay (Replaces entries) before after (Err (Refused refusal)) left = left
-files_stay (Writes file body) before after (Err (Refused refusal)) left = absurd left
-
--- and the rows
-rows_stay : (change : Change) (before after : Option Rows) (made : Made) →
-    RowsLeft change before after made → Stays made (WhereTold before after (λ b a. a ≡ b))
-rows_stay change before after (Ok _) left = tt
-rows_stay change before after (Err Outside) left = tt
-rows_stay change before after (Err Memory) left = left
-rows_stay change before after (Err (Refused refusal)) left =
-    weakened _ _ before after (λ b a both. both.0) left
-
--- what stays in the change stays in the work
-stays_after : (answer : List ℕ) (made : Made) (First Second : Type 0) → (First → Second) →
-    Stays made First → Stays (after_commit answer made) Second
-stays_after answer (Ok _) First Second so stays = tt
-stays_after answer (Err Memory) First Second so stays = so stays
-stays_after answer (Err Outside) First Second so stays = tt
-stays_after answer (Err (Refused refusal)) First Second so stays = so stays
-
--- the files stay where the work is refused or lacks memory
-pub files_kept : (before : Option Held) (between after : Scene) (plan : Plan) (made : Made) →
-    between.files ≡ before → Commits between after plan.change made →
-    Stays (after_commit plan.answer made) (after.files ≡ before)
-files_kept before between after plan made same commits =
-    stays_after plan.answer made _ _ (λ later. later ∙ same)
-    (files_stay plan.change between.files after.files made commits.files)
-
--- and so do the rows
-pub rows_kept : (before : Option Rows) (between after : Scene) (plan : Plan) (made : Made) →
-    WhereTold before between.rows (λ b a. a ≡ b) → Commits between after plan.change made →
-    Stays (after_commit plan.answer made) (WhereTold before after.rows (λ b a. a ≡ b))
-rows_kept before between after plan made same commits =
-    stays_after plan.answer made _ _ (after_same (λ b a. a ≡ b) before between.rows after.rows same)
-    (rows_stay plan.change between.rows after.rows made commits.rows)
 
 -- each object is as the change of the plan leaves it
 pub each_left : (needs : Needs) (files : Option Held) (rows : Option Rows) (between after : Scene)

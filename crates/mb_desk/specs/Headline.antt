@@ -16,6 +16,7 @@ use Rattle.mb_desk.specs.declared.requests.MovesWords.{MovesWords}
 use Rattle.mb_desk.specs.declared.requests.ReachWords.{ReachWords}
 use Rattle.mb_desk.specs.declared.requests.Request.{Request}
 use Rattle.mb_desk.specs.declared.requests.Request.TheVariants as requests
+use Rattle.mb_matrix.specs.Ascending.{occurrences}
 use Rattle.mb_matrix.specs.Matrix.{IsDesign, design_of, fiber_of}
 use Rattle.mb_matrix.specs.MarkovBasis.{IsMarkovBasis}
 use Rattle.mb_moves.specs.GridText.{matrix_of, moves_of}
@@ -64,7 +65,7 @@ pub record AnswersMoves (held : Held) (words : MovesWords) (answer : List ℕ) :
 
 -- `reach`: the first file is a design matrix, each row of the second is a move of it, and the third
 -- is a table; ring k has the tables at distance k from it; exactly the tables that the moves join to
--- it are printed, ring by ring, and they are no more than the limit
+-- it are printed, each once, ring by ring, and they are no more than the limit
 pub record AnswersReach (held : Held) (words : ReachWords) (answer : List ℕ) : Type 0 where
   pub matrix : Rows
   pub moves : Rows
@@ -78,6 +79,7 @@ pub record AnswersReach (held : Held) (words : ReachWords) (answer : List ℕ) :
   pub each : All (IsMoveOf matrix.rows) moves.rows
   pub distance : HasDistances moves.rows table rings
   pub joined : (v : List ℕ) → In v (tables_of rings) ↔ Joined moves.rows table v
+  pub once : (v : List ℕ) → In v (tables_of rings) → occurrences v (tables_of rings) ≡ 1
   pub few : length (tables_of rings) ≤ words.limit
   pub printed : answer ≡ ring_table_of rings
 

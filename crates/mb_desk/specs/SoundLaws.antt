@@ -85,7 +85,7 @@ AllAreSaid (request ∷ requests) w =
 
 -- ---- sound rows
 
--- no rows are sound, and sound rows are sound after every list of accepted requests
+-- a registry without rows is sound, and sound rows are sound after every list of accepted requests
 pub record StepsKeepSoundness : Type 0 where
   pub from_none : AreSound empty
   pub steps : (requests : List Request) (w v : World) → AllAreSaid requests w → AreSound w.rows →

@@ -21,7 +21,8 @@ pub fn repeats_are_unchanged()
     ensures { RepeatsAreUnchanged }
 {}
 
-/// Law: no rows are sound, and sound rows are sound after every list of accepted requests.
+/// Law: a registry without rows is sound, and sound rows are sound after every list of accepted
+/// requests.
 #[tactic(auto, using(crate::proofs::SoundSteps::steps_keep_soundness))]
 pub fn steps_keep_soundness()
     ensures { StepsKeepSoundness }

@@ -156,7 +156,7 @@ fn number_option(
     }
 }
 
-/// The limit of `reach`.
+/// The limit of `reach` and of `import`.
 fn limit_option(options: &[String]) -> Option<Limit>
     ensures { option_map Count result ≡ chosen limit_choice (texts options.now) }
 {

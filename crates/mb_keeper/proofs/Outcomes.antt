@@ -239,11 +239,3 @@ pub keeps_weaker : (old new : State) (F G : Rows → Rows → Type 0) → ((x y 
     → Keeps old new F → Keeps old new G
 keeps_weaker old new F G weaker h =
     record { known = h.known; rows = told_weaker (told old) (told new) F G weaker h.rows }
-
--- what is so of two calls in turn
-pub told_then : (a b c : Option Rows) (F G H : Rows → Rows → Type 0)
-    → ((x y z : Rows) → F x y → G y z → H x z) → WhereTold a b F → WhereTold b c G → WhereTold a c H
-told_then a b None F G H both f g = tt
-told_then a None (Some z) F G H both f g = absurd g
-told_then None (Some y) (Some z) F G H both f g = absurd f
-told_then (Some x) (Some y) (Some z) F G H both f g = both x y z f g

@@ -30,10 +30,6 @@ entries rows = filter_map entry rows
 pub one_key : (a b : Key) → eq_by_cmp key_cmp a b ≡ true → a ≡ b
 one_key a b e = exact_keys a b ((Equal-is (key_cmp a b)).0 e)
 
--- a key is like itself
-pub own_key : (a : Key) → eq_by_cmp key_cmp a a ≡ true
-own_key a = ap is_eq (tied_itself keys_total a)
-
 -- the row has this key
 abbrev pub has_key : Key → Row → Bool
 has_key q row = same_key (Some (q, [])) (entry row)

@@ -7,11 +7,10 @@ use Rattle.std.specs.Ordering.{eq_by_cmp}
 use Rattle.mb_outside.specs.Rows.{AreApart, Key, Rows, entry_of, key_cmp, rows_of}
 use Rattle.mb_outside.specs.declared.keeper.Row.{Row as Listed}
 use Rattle.sqlite.specs.declared.error.Error.{Error}
-use Rattle.sqlite.specs.Order.{Row}
 use Rattle.sqlite.specs.Effect.{Database}
-use Rattle.sqlite.specs.State.{ExecutesInside, HasCleanDisk, IsRolledBack, KeepsCommit, KeepsCounts, Shows, State}
+use Rattle.sqlite.specs.State.{ExecutesInside, HasCleanDisk, IsRolledBack, KeepsCounts, Shows, State}
 use Rattle.sqlite.specs.Steps.{FailsToCommit}
-use Rattle.sqlite.proofs.InsideLemmas.{inside_keeps, keeps_then}
+use Rattle.sqlite.proofs.InsideLemmas.{keeps_then}
 use Rattle.sqlite_trees.specs.View.{doubt}
 use Rattle.mb_keeper.specs.Effects.{IsWithin, Keeps, Replaced}
 use Rattle.mb_keeper.specs.Known.{Holds, IsLevel, IsOurs, Knows}
@@ -22,25 +21,6 @@ use Rattle.mb_keeper.proofs.TableRows.{Entry, entries, kept_put}
 use Rattle.mb_keeper.proofs.Changes.{added, cleared, none_kept, row_params, stored}
 use Rattle.mb_keeper.proofs.Calls.{row_inserted}
 use Rattle.mb_keeper.proofs.Outcomes.{keeps}
-
--- a statement commits nothing
-pub ran_within : (old new : State) (sql : List ℕ) (params : Row) (r : Result ℕ Error)
-    → doubt old.is_clean ≤ doubt new.is_clean → (old.in_transaction ≡ false → new ≡ old)
-    → (HasCleanDisk new → IsTrue old.in_transaction → ExecutesInside 0 sql params old new r)
-    → IsWithin old new
-ran_within old new sql params r falls ended runs = record {
-  falls = falls;
-  kept = λ clean. elim (cases_Bool old.in_transaction) [
-    | inl on ↦ inside_keeps old new 0 false sql params r (runs clean on)
-    | inr off ↦ subst (KeepsCommit old) (sym (ended off))
-        (record { was_open = λ h. h; committed = λ _. refl })
-  ];
-}
-
--- nothing commits nothing
-pub within_same : (s : State) → IsWithin s s
-within_same s = record
-    { falls = omega arith; kept = λ _. record { was_open = λ h. h; committed = λ _. refl } }
 
 -- and of two steps, one after the other
 pub within_then : (a b c : State) → IsWithin a b → IsWithin b c → IsWithin a c

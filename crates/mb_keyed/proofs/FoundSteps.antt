@@ -84,12 +84,6 @@ module _ (IsSought : ℕ → Type 0) (known : List ℕ) where
     all = λ key. ((λ i. inl i), (λ h. ⊎_elim (λ i. i) (λ j. absurd j) h));
   })
 
-  -- a key that is gathered is known or sought
-  pub found-near : (gathered found : List ℕ) → AreFound IsSought known gathered found →
-      (key : ℕ) → In key gathered → In key known ⊎ IsSought key
-  found-near gathered found h key i =
-      ⊎_elim (λ k. inl k) (λ k. inr (h.fresh.sought key k)) ((h.all key).0 i)
-
   -- the gathered keys in another order
   pub found-grown : (gathered grown found : List ℕ) → AreFound IsSought known gathered found →
       ((key : ℕ) → In key grown ↔ In key gathered) → AreFound IsSought known grown found

@@ -1,7 +1,7 @@
 -- The passes of a round are gathered, one after another from the last on.
-use Rattle.std.proofs.Common.{All, Bool, List, [], ap, append-nil, append_assoc, arith, cond, eqb, false, inl, inr, length, not, refl, reverse, subst, sym, true, ℕ, ◌++◌, ◌||◌, ◌<◌, ◌∙◌, ◌∷◌, ◌≡◌, ◌⊎◌, ⊎_elim}
+use Rattle.std.proofs.Common.{All, Bool, List, [], ap, append_assoc, arith, cond, eqb, false, inl, inr, length, not, refl, reverse, subst, sym, true, ℕ, ◌++◌, ◌||◌, ◌<◌, ◌∙◌, ◌∷◌, ◌≡◌, ◌⊎◌, ⊎_elim}
 use Rattle.std.proofs.lemmas.Bool.{both_ways, eq-eqb, not-true, or_parts}
-use Rattle.std.proofs.lemmas.List.Elements.{All-cons, All-nil}
+use Rattle.std.proofs.lemmas.List.Elements.{All-cons}
 use Rattle.std.proofs.lemmas.List.{reverse-append, reverse-reverse}
 use Rattle.std.specs.List.{filter}
 use Rattle.mb_claims.specs.ClaimStep.{gathers}
@@ -24,20 +24,6 @@ pub record AreGathered (all rest : List Worker) (before now : RootView) (old new
   pub notes : now.notes ≡ notes_made done ++ before.notes
   pub all_done : left.is_left ≡ false → All (λ worker. worker.is_left ≡ false) done
   pub found : left.is_short ≡ false → new ≡ old ++ reverse (keys_won done)
-
--- before the first
-pub gathered_none : (all : List Worker) (before : RootView) (old : List ℕ) (left : Left) →
-    ((n : ℕ) → In n before.opened → In n (numbers all)) →
-    AreGathered all all before before old old left
-gathered_none all before old left opened = record {
-  done = [];
-  split = sym (append-nil all);
-  opened = opened;
-  gathered = refl;
-  notes = refl;
-  all_done = λ e. All-nil (λ (worker : Worker). worker.is_left ≡ false);
-  found = λ e. sym (append-nil old);
-}
 
 -- the number of the last worker, or one of those before it
 numbers-last : (rest : List Worker) (last : Worker) (n : ℕ) → In n (numbers (rest ++ last ∷ [])) →
@@ -142,18 +128,3 @@ module _ (all rest : List Worker) (before now : RootView) (old new : List ℕ) (
   pub gathered_closed : (0 < length rest) ⊎ ClosesAll now → IsClosed now
   gathered_closed cases =
       ⊎_elim (λ some. absurd (omega arith)) (λ closes. closes gathered_opened) cases
-
--- and all workers are gathered
-pub gathered_all : (all : List Worker) (before now : RootView) (old new : List ℕ) (left : Left) →
-    AreGathered all [] before now old new left →
-    (now.gathered ≡ keys_won all ++ before.gathered)
-    × (now.notes ≡ notes_made all ++ before.notes)
-    × (left.is_left ≡ false → All (λ worker. worker.is_left ≡ false) all)
-    × (left.is_short ≡ false → new ≡ old ++ reverse (keys_won all))
-gathered_all all before now old new left h = (
-  h.gathered ∙ ap (λ (l : List Worker). keys_won l ++ before.gathered) (sym h.split),
-  h.notes ∙ ap (λ (l : List Worker). notes_made l ++ before.notes) (sym h.split),
-  (λ e. subst (λ (l : List Worker). All (λ worker. worker.is_left ≡ false) l) (sym h.split)
-      (h.all_done e)),
-  (λ e. h.found e ∙ ap (λ (l : List Worker). old ++ reverse (keys_won l)) (sym h.split)),
-)

@@ -75,13 +75,6 @@ module _ (digits : List Digit) where
         gains-one (IsKeyOf digits (Moved sign u move)) before after r e
         (made.0, made.1, key made.0 made.1) (λ k h. h.2 ∙ sym (key h.0 h.1))
 
-    -- and where it isn't, nothing is
-    pub gains-no_step : (list : List Ranked) → (Has u needs → ⊥) →
-        Gains (IsKeyOf digits (Moved sign u move)) list list
-    gains-no_step list lacks =
-        gains-none (IsKeyOf digits (Moved sign u move)) list
-        (λ k h. lacks (are.wanted u h.0 refl h.1))
-
   -- before the first move
   pub listed-none : (moves : List (List ℤ)) (u : List ℕ) (list : List Ranked) → list ≡ [] →
       Gains (IsKeyOf digits (SteppedBelow moves 0 u)) [] list

@@ -1,7 +1,7 @@
 -- Passes are opened, one after another.
-use Rattle.std.proofs.Common.{All, List, [], ap, arith, inl, length, length-append, refl, subst, sym, ℕ, ◌++◌, ◌∙◌, ◌∷◌, ◌≡◌, ⊎_elim}
+use Rattle.std.proofs.Common.{All, List, [], ap, arith, inl, length, length-append, subst, sym, ℕ, ◌++◌, ◌∙◌, ◌∷◌, ◌≡◌, ⊎_elim}
 use Rattle.std.proofs.lemmas.List.{map-append}
-use Rattle.std.proofs.lemmas.List.Elements.{All-nil, All-push}
+use Rattle.std.proofs.lemmas.List.Elements.{All-push}
 use Rattle.mb_claims.specs.ClaimStep.{begins, opens}
 use Rattle.mb_claims.specs.Claims.{RootSeat, ShardWords}
 use Rattle.mb_claims.specs.declared.views.RootView.{RootView}
@@ -18,19 +18,6 @@ pub record AreOpened (shards : ShardWords) (before now : RootSeat) (workers : Li
   pub ours : All (IsWorkerOf shards) workers
   pub idle : All IsIdle workers
   pub none : length workers ≡ 0 → now ≡ before
-
--- before the first
-pub opened_none : (shards : ShardWords) (root : RootSeat) (workers : List Worker) →
-    root.knows.opened ≡ [] → workers ≡ [] → AreOpened shards root root workers
-unfolding In
-opened_none shards root workers e f =
-    subst (AreOpened shards root root) (sym f) (record {
-      gathered = refl;
-      opened = λ n i. absurd (subst (λ list. In n list) e i);
-      ours = All-nil (IsWorkerOf shards);
-      idle = All-nil IsIdle;
-      none = λ l. refl;
-    })
 
 -- one pass more
 pub opened_more : (shards : ShardWords) (before now next : RootSeat) (workers all : List Worker)

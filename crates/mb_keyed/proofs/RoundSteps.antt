@@ -13,10 +13,10 @@ use Rattle.mb_keyed.specs.declared.worker.Worker.{Worker}
 use Rattle.mb_keyed.specs.loops.Rounds.{AreWorked, IsListed, IsNearBefore, IsNearShare, IsRound}
 use Rattle.mb_keyed.specs.loops.Worked.{Claims, IsIdle, keys_in, keys_won, notes_made, numbers}
 use Rattle.mb_matrix.specs.declared.digit.Digit.{Digit}
-use Rattle.mb_rings.proofs.ListElements.{In-flat, element, flat-In}
+use Rattle.mb_rings.proofs.ListElements.{In-flat, flat-In}
 use Rattle.mb_rings.specs.Claimed.{IsKeyOf}
 use Rattle.mb_rings.specs.Ring.{Ring}
-use Rattle.mb_tables.proofs.ListLaws.{In-left, In-map, In-map_range, In-place, place-in, place-within}
+use Rattle.mb_tables.proofs.ListLaws.{In-left, In-map, In-map_range, In-place, place-in, place-within, some_at}
 use Rattle.mb_tables.specs.Lists.{In}
 use Rattle.mb_tables.specs.Step.{IsNear}
 
@@ -84,7 +84,7 @@ module _ (digits : List Digit) (moves : List (List ℤ)) (ring : Ring) (k n : �
         let c = near-covered moves ring k n shares passes h.0 h.1 in
         let i : ℕ = c.0 in
         let l : i < length new = omega (arith, c.1) in
-        let there = element new i l in
+        let there = some_at new i l in
         let x : Worker = there.0 in
         let done : x.is_left ≡ false =
         subst (λ (w : Worker). w.is_left ≡ false) (get_or_from_slice_get new i x x there.1)

@@ -1,12 +1,18 @@
 //! How many keys there are.
 
-use mb_matrix::Digit;
+ghost use Rattle.std.specs.Prelude.{◌≡◌};
+ghost use Rattle.mb_matrix.specs.Key.{key_count};
 
-/// How many keys these digits make, or the greatest number of 64 bits where there are more.
-pub fn key_total(digits: &[Digit]) -> u64 {
-    let mut total = 1u64;
+use mb_matrix::Keys;
+
+/// How many keys the tables of a fiber can have: the product of bound + 1 over the free cells.
+pub fn key_total(keys: &Keys) -> u64
+    ensures { result ≡ key_count keys.now }
+{
+    let digits = keys.digits();
+    let mut total = 1;
     for digit in digits {
-        total = total.saturating_mul(digit.bound.saturating_add(1));
+        total *= digit.bound + 1;
     }
     total
 }

@@ -224,7 +224,7 @@ pub fn round<R: Threads + Sync, G: Gate + Sync>(
     ensures same { OnErr result (found.new.items ≡ found.old.items) }
 {
     let passes = count.min(ring.len() as u32).max(1);
-    let is_narrow = key_total(graph.keys().digits()) < 1 << 32;
+    let is_narrow = key_total(graph.keys()) < 1 << 32;
     let mut workers = open(alloc, shards, root, passes, ring.len(), is_narrow)?;
     let count = count as usize;
     let list = workers.as_mut_slice();

@@ -1,5 +1,5 @@
 -- Looks one after the other, as a loop makes them.
-use Rattle.std.proofs.Common.{Err, None, Ok, Option, Some, ap, refl, subst, sym, ◌∙◌, ◌≡◌}
+use Rattle.std.proofs.Common.{Err, None, Ok, Option, Some, ap, subst, sym, ◌∙◌, ◌≡◌}
 use Rattle.mb_outside.specs.Rows.{Rows}
 use Rattle.mb_outside.specs.Told.{WhereTold}
 use Rattle.mb_registry.specs.Faults.{Answer, fault_cause}
@@ -10,12 +10,6 @@ use Rattle.mb_tables.specs.Answers.{Gives, IsRefused, ◌>>=◌}
 abbrev pub IsLeft : {B : Type 0} → Option Rows → Option Rows → (Rows → Answer B) →
     (Rows → Answer B) → Type 0
 IsLeft before now decide rest = WhereTold before now (λ b a. (a ≡ b) × (decide b ≡ rest b))
-
--- before the first look all is left
-pub all_left : {B : Type 0} (told : Option Rows) (decide : Rows → Answer B) →
-    IsLeft told told decide decide
-all_left None decide = tt
-all_left (Some rows) decide = (refl, refl)
 
 -- a look that goes on leaves what comes after it
 pub one_looked : {A X B : Type 0} (before now after : Option Rows)

@@ -1,5 +1,5 @@
 -- The elements of lists, and of lists of lists.
-use Rattle.std.proofs.Common.{List, Some, [], arith, inl, inr, length, refl, slice_get, subst, sym, ℕ, ◌+◌, ◌<◌, ◌∷◌, ◌≡◌}
+use Rattle.std.proofs.Common.{List, Some, [], arith, inl, inr, refl, slice_get, subst, sym, ℕ, ◌+◌, ◌∷◌, ◌≡◌}
 use Rattle.std.specs.List.{flat_map}
 use Rattle.mb_tables.proofs.ListLaws.{In-cases, In-left, In-right}
 use Rattle.mb_tables.specs.Lists.{In}
@@ -10,13 +10,6 @@ get-further : {X : Type 0} (x y : X) (xs : List X) (k : ℕ) → slice_get xs k 
 get-further x y xs k e =
     let step : ℕ.suc k ≡ k + 1 = omega arith in
     subst (λ n. slice_get (x ∷ xs) n ≡ Some y) step e
-
--- a list has an element at each of its places
-pub element : {X : Type 0} (xs : List X) (i : ℕ) → i < length xs →
-    (x : X) × (slice_get xs i ≡ Some x)
-element [] i l = absurd (omega arith)
-element (x ∷ xs) ℕ.zero l = (x, refl)
-element (x ∷ xs) (ℕ.suc i) l = element xs i (omega arith)
 
 -- what stands in a list of lists stands in one of them
 pub In-flat : {X Y : Type 0} (f : X → List Y) (y : Y) (xs : List X) → In y (flat_map f xs) →

@@ -11,7 +11,7 @@ use Rattle.mb_tables.specs.Step.{IsNear, Moved, OneApart}
 use Rattle.mb_tables.specs.declared.sign.Sign.TheVariants.{Minus, Plus}
 use Rattle.mb_walk.proofs.OwnedParts.{In-part, part-In, parts-put, put-tables}
 use Rattle.mb_walk.specs.Owned.{owner_of}
-use Rattle.mb_walk.specs.loops.Piles.{AreParts, Deals, IsDealer, IsPut, IsWhole, dealt_by, kept}
+use Rattle.mb_walk.specs.loops.Piles.{AreParts, Deals, IsDealer, IsPut, dealt_by, kept}
 use Rattle.mb_walk.specs.declared.owner.Owner.{Owner}
 use Rattle.mb_walk.specs.declared.dealer.Dealer.{Dealer}
 
@@ -29,16 +29,6 @@ module _ (room : ℕ) (known : List (List ℕ)) where
   pub deals-none : (P : List ℕ → Type 0) (dealer : Dealer) → ((v : List ℕ) → P v → ⊥) →
       Deals room known P dealer dealer
   deals-none P dealer none = deals-met P dealer (λ v p. absurd (none v p))
-
-  -- a worker that isn't whole deals nothing
-  pub deals-left : (P : List ℕ → Type 0) (before after : Dealer) →
-      dealt_by after ≡ dealt_by before → (IsWhole room after → ⊥) →
-      Deals room known P before after
-  deals-left P before after e left = record {
-    sought = λ v i. inl (subst (In v) e i);
-    kept = λ v i. subst (In v) (sym e) i;
-    told = λ w. absurd (left w);
-  }
 
   -- a table is dealt
   pub deals-one : (table : List ℕ) (before after : Dealer) →

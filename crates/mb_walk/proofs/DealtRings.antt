@@ -3,14 +3,13 @@ use Rattle.std.proofs.Common.{All, List, Some, [], ap, arith, false, get_or, inl
 use Rattle.std.proofs.Math.Dec.{eqb-suc-zero}
 use Rattle.std.proofs.lemmas.Option.{get_or_from_slice_get}
 use Rattle.mb_rings.proofs.DistinctTables.{distinct-append, distinct-none}
-use Rattle.mb_rings.proofs.ListElements.{element}
 use Rattle.mb_rings.proofs.RingShares.{In-share, In-some_share}
 use Rattle.mb_rings.specs.Ring.{Ring, tables_of}
 use Rattle.mb_rings.specs.Share.{share_of}
 use Rattle.mb_rings.specs.declared.fault.WalkFault.{WalkFault}
 use Rattle.mb_rings.specs.declared.fault.WalkFault.TheVariants.{OutOfMemory, TooLarge}
 use Rattle.mb_rings.specs.loops.Found.{AreDistinct, IsSearchFault}
-use Rattle.mb_tables.proofs.ListLaws.{place-within}
+use Rattle.mb_tables.proofs.ListLaws.{place-within, some_at}
 use Rattle.mb_tables.specs.Lists.{In}
 use Rattle.mb_tables.specs.Step.{IsNear}
 use Rattle.mb_walk.proofs.OwnedParts.{distinct-parts}
@@ -153,7 +152,7 @@ module _ (room : ℕ) (known : List (List ℕ)) where
             let s = In-some_share ring count some near.0 near.1 in
             let w : ℕ = s.0 in
             let l : w < length dealers = omega (arith, s.1, many) in
-            let there = element dealers w l in
+            let there = some_at dealers w l in
             let d : Dealer = there.0 in
             let done : IsWhole room d =
             subst (IsWhole room) (get_or_from_slice_get dealers w d d there.1) (whole w d l) in

@@ -7,7 +7,6 @@ use Rattle.mb_rings.proofs.SearchSteps.{finds-none, finds-same, finds-then}
 use Rattle.mb_rings.specs.Ring.{Ring}
 use Rattle.mb_rings.specs.loops.Found.{FindsMore}
 use Rattle.mb_tables.proofs.ListLaws.{place-within}
-use Rattle.mb_tables.specs.Lists.{In}
 use Rattle.mb_walk.specs.loops.Piles.{IsDealt, IsInPile}
 use Rattle.mb_walk.specs.declared.dealer.Dealer.{Dealer}
 
@@ -50,17 +49,6 @@ piled-all dealers i j before after new e f =
       is = h.2;
       holds = h.3;
     })
-    f
-
--- a pile with these tables
-pub pile-is : (j : ℕ) (dealer : Dealer) (pile : Ring) (before after old new : Ring) →
-    slice_get dealer.piles.items j ≡ Some pile →
-    FindsMore (λ v. In v pile) before after old new →
-    FindsMore (IsInPile j dealer) before after old new
-pile-is j dealer pile before after old new e f =
-    finds-same (λ v. In v pile) (IsInPile j dealer) before after old new
-    (λ v i. (pile, e, i))
-    (λ v h. let same : h.0 ≡ pile = (let g = h.1 in cc) in subst (λ p. In v p) same h.2)
     f
 
 -- there is no pile

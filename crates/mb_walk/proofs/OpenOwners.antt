@@ -1,5 +1,5 @@
 -- The owners at the start of a walk.
-use Rattle.std.proofs.Common.{List, [], ap, append-nil, arith, inl, inr, length, length-append, refl, subst, sym, ℕ, ◌++◌, ◌+◌, ◌<◌, ◌∙◌, ◌∷◌, ◌≡◌, ◌≤◌, ◌⊎◌, Some, slice_get}
+use Rattle.std.proofs.Common.{List, [], ap, append-nil, arith, inl, inr, length, length-append, subst, sym, ℕ, ◌++◌, ◌+◌, ◌<◌, ◌∙◌, ◌∷◌, ◌≡◌, ◌≤◌, ◌⊎◌, Some, slice_get}
 use Rattle.std.proofs.lemmas.List.{length-map, map-append}
 use Rattle.std.specs.List.Sorted.{IsPermutation}
 use Rattle.mb_rings.proofs.DistinctTables.{distinct-cons, distinct-none, distinct-permutation, permutation-In}
@@ -101,11 +101,3 @@ open-owner n number start owners more owner count e h one none =
           (λ s. one (sym same ∙ s))
           (λ s. none (λ t. s (same ∙ t)))),
     )
-
--- before the first owner
-pub open-none : (n : ℕ) (start : List ℕ) → AreOpen n start []
-open-none n start = record {
-  parts_are = λ j p e. cc;
-  before = λ l. refl;
-  after = λ l. absurd (omega arith);
-}

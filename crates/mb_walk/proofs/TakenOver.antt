@@ -4,11 +4,11 @@ use Rattle.std.proofs.lemmas.List.Sorted.{IsPermutation-append, IsPermutation-ap
 use Rattle.std.proofs.lemmas.Option.{get_or_from_slice_get}
 use Rattle.std.specs.List.Sorted.{IsPermutation}
 use Rattle.mb_rings.proofs.DistinctTables.{In-permutation, distinct-append, distinct-permutation, permutation-In}
-use Rattle.mb_rings.proofs.ListElements.{In-flat, element}
+use Rattle.mb_rings.proofs.ListElements.{In-flat}
 use Rattle.mb_rings.proofs.SearchSteps.{finds-permuted}
 use Rattle.mb_rings.specs.Ring.{Ring, tables_of}
 use Rattle.mb_rings.specs.loops.Found.{AreDistinct, Exceeds, Finds, FindsMore}
-use Rattle.mb_tables.proofs.ListLaws.{In-cases, In-left, place-within}
+use Rattle.mb_tables.proofs.ListLaws.{In-cases, In-left, place-within, some_at}
 use Rattle.mb_tables.specs.Lists.{In}
 use Rattle.mb_walk.proofs.DealSteps.{kept-at}
 use Rattle.mb_walk.proofs.OwnedParts.{In-part, distinct-parts, part-In}
@@ -47,13 +47,6 @@ all-kept (x ∷ old) (y ∷ new) e h =
     (IsPermutation-append (x.visited ++ y.next.items) y.visited
     (seen_by old ++ tables_of (joined new)) (seen_by new) (h 0 x (omega arith))
     (all-kept old new (omega arith) (λ i d l. h (suc i) d (omega arith))))
-
--- the list of an owner stands at its place
-joined-at : (owners : List Owner) (i : ℕ) (owner : Owner) → slice_get owners i ≡ Some owner →
-    slice_get (joined owners) i ≡ Some owner.next.items
-joined-at [] i owner e = cc
-joined-at (o ∷ owners) zero owner e = let f : o ≡ owner = cc in ap (λ (x : Owner). Some x.next.items) f
-joined-at (o ∷ owners) (suc i) owner e = joined-at owners i owner e
 
 -- the owner of a list
 at-joined : (owners : List Owner) (i : ℕ) (list : Ring) → slice_get (joined owners) i ≡ Some list →
@@ -115,7 +108,7 @@ module _ (n : ℕ) (dealers : List Dealer) (old new : List Owner) (some : 0 < n)
     -- what it kept before
     part-at : (i : ℕ) (d : Owner) → i < length old → IsPart n i (get_or old i d).visited
     part-at i d l =
-        let there = element old i l in
+        let there = some_at old i l in
         let o : Owner = there.0 in
         subst (λ (x : Owner). IsPart n i x.visited) (sym (get_or_from_slice_get old i o d there.1))
         (parts i o.visited (kept-at old i o there.1))
@@ -190,7 +183,7 @@ module _ (n : ℕ) (dealers : List Dealer) (old new : List Owner) (some : 0 < n)
           let s = listed-at v k in
           let i : ℕ = s.0 in
           let f = finds-at i s.1 s.2 in
-          let there = element old i s.2 in
+          let there = some_at old i s.2 in
           let o : Owner = there.0 in
           let owned = dealt-owned n dealers piles i v (f.sought v s.3) in
           let here : In v o.visited =
@@ -202,7 +195,7 @@ module _ (n : ℕ) (dealers : List Dealer) (old new : List Owner) (some : 0 < n)
       all = λ v h fits.
           let j : ℕ = owner_of n v in
           let l : j < length new = owner-within v in
-          let there = element new j l in
+          let there = some_at new j l in
           let o : Owner = there.0 in
           let d = some-dealt n dealers piles v h in
           let here = (finds-at j o (omega arith)).all v d fits in

@@ -83,7 +83,7 @@ fn walk_by_keys<R: Threads + Sync, G: Gate + Sync>(
         (walk_of limit matrix.now moves.now.rows start.now) }
     ensures claims { IfOk result (AreClaims keys.now) }
 {
-    let (shards, words) = first_shards(limit, key_total(keys.digits()));
+    let (shards, words) = first_shards(limit, key_total(keys));
     let (shards, mut root) = Shards::try_new(alloc, shards, words)?;
     match walk_on(
         rt, alloc, matrix, moves, start, keys, shards, &mut root, limit, workers, gate,

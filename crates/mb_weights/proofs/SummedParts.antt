@@ -13,7 +13,7 @@ use Rattle.mb_weights.proofs.SummedTables.{at_most-cons, listed_within, observed
 use Rattle.mb_weights.specs.PValue.{at_most, whole_of}
 use Rattle.mb_weights.specs.Weight.{weight_of}
 use Rattle.mb_weights.specs.declared.sums.Sums.{Sums}
-use Rattle.mb_weights.specs.loops.Parts.{AreSumsOf, both, single, sums_of}
+use Rattle.mb_weights.specs.loops.Parts.{AreSumsOf, both, sums_of}
 
 -- a number or 0 is at most the number
 cond-within : (t : Bool) (n : ℕ) → cond t n 0 ≤ n
@@ -44,15 +44,6 @@ sums-part m w tables a s =
 pub sums-none : (m : Weighting) (w : ℕ) →
     AreSumsOf m w [] (Some (record { below = 0; whole = 0 }))
 sums-none m w = (omega arith, refl)
-
--- the sums over one table
-pub sums-single : (m : Weighting) (w : ℕ) (v : List ℕ) →
-    sums_of m w (v ∷ []) ≡ single w (weight_of m v)
-sums-single m w v =
-    let e : whole_of m (at_most m w (v ∷ [])) ≡ cond (nat_le (weight_of m v) w) (weight_of m v) 0 =
-    omega (arith, at_most-cons m w v []) in
-    let f : whole_of m (v ∷ []) ≡ weight_of m v = omega arith in
-    λ i. record { below = e i; whole = f i }
 
 -- the sums over two lists are those of each, added up
 pub sums-append : (m : Weighting) (w : ℕ) (xs ys : List (List ℕ)) →

@@ -1,28 +1,13 @@
 -- The tables of rings, and their weights summed.
-use Rattle.std.proofs.Common.{All, Global, List, Vec, [], arith, ap, cond, get_or, inl, inr, length, length-append, nat_le, subst, suc, sym, take, zero, ℕ, ◌++◌, ◌+◌, ◌<◌, ◌∷◌, ◌≡◌, ◌≤◌}
+use Rattle.std.proofs.Common.{All, Global, List, Vec, [], arith, ap, cond, get_or, inl, inr, length, length-append, nat_le, subst, suc, sym, zero, ℕ, ◌++◌, ◌+◌, ◌<◌, ◌∷◌, ◌≡◌, ◌≤◌}
 use Rattle.std.proofs.lemmas.Bool.{cases_Bool, le-leb}
 use Rattle.std.proofs.lemmas.List.{get_or-append-add, get_or_append_left}
 use Rattle.std.proofs.lemmas.List.Elements.{All-head, All-tail}
-use Rattle.std.proofs.lemmas.List.Sums.{sum_by-append, sum_by-cons}
+use Rattle.std.proofs.lemmas.List.Sums.{sum_by-cons}
 use Rattle.mb_matrix.specs.Measure.{Weighting}
 use Rattle.mb_tables.specs.Lists.{In}
 use Rattle.mb_weights.specs.PValue.{at_most, below_of, tables_in, whole_of}
 use Rattle.mb_weights.specs.Weight.{weight_of}
-
--- the weights of the first rings and of the next are a part of all
-pub whole_within : (m : Weighting) (rings : List (Vec (List ℕ) Global)) (i : ℕ)
-    (ring : Vec (List ℕ) Global) → i < length rings → ring ≡ get_or rings i ring →
-    whole_of m (tables_in (take i rings)) + whole_of m ring.items ≤ whole_of m (tables_in rings)
-whole_within m [] i ring l there = absurd (omega arith)
-whole_within m (first ∷ rings) zero ring l there =
-    let e = sum_by-append (weight_of m) first.items (tables_in rings) in
-    let f = ap (λ (r : Vec (List ℕ) Global). whole_of m r.items) there in
-    omega arith
-whole_within m (first ∷ rings) (suc i) ring l there =
-    let e = sum_by-append (weight_of m) first.items (tables_in rings) in
-    let f = sum_by-append (weight_of m) first.items (tables_in (take i rings)) in
-    let g = whole_within m rings i ring (omega arith) there in
-    omega arith
 
 -- what holds of all of two lists holds of all of the first
 all_front : (P : List ℕ → Type 0) (xs ys : List (List ℕ)) → All P (xs ++ ys) → All P xs

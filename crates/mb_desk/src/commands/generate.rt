@@ -23,7 +23,7 @@ ghost use Rattle.mb_tables.specs.Answers.{Gives};
 use crate::completing::complete_stop;
 use crate::exact_test::{Figures, NumbersFault, numbers};
 use crate::independence::{square_matrix, square_measure};
-use crate::limits::Workers;
+use crate::limits::{LARGEST_FIBER, LARGEST_LOOKS, Workers};
 use crate::plans::{Change, Plan, Stop};
 use crate::refusals::Refusal;
 use mb_certificate::Certificate;
@@ -37,12 +37,6 @@ use mb_text::{push_number, push_text, push_word_line};
 use mb_weights::decimals;
 use std::alloc::{AllocError, Global};
 use std::thread::Threads;
-
-/// The most critical pairs that are looked at.
-const MOST_LOOKS: u32 = 1_000_000;
-
-/// The most tables that a fiber may have.
-const MOST_TABLES: u32 = 2_000_000;
 
 /// Digit j of a number in base 3. Digits count from 0, which is the least significant.
 fn digit(number: u32, j: u32) -> u32
@@ -74,7 +68,7 @@ fn certify(alloc: Global, matrix: &Matrix) -> Result<Certificate, Stop>
     ensures valid { IfOk result IsValid }
     ensures own { blames result ≡ false }
 {
-    let completed = match complete(alloc, matrix, Order::Grevlex, MOST_LOOKS) {
+    let completed = match complete(alloc, matrix, Order::Grevlex, LARGEST_LOOKS) {
         Ok(completed) => completed,
         Err(fault) => return Err(complete_stop(fault)),
     };
@@ -125,7 +119,7 @@ fn test<R: Threads + Sync, G: Gate + Sync>(
         certificate,
         &measure,
         table,
-        MOST_TABLES,
+        LARGEST_FIBER,
         workers.count(),
         gate,
     ) {
