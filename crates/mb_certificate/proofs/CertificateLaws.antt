@@ -3,7 +3,7 @@ use Rattle.std.proofs.Common.{List, Ok, Result, [], ap, append-nil, arith, lengt
 use Rattle.std.proofs.lemmas.List.Elements.{All-from_recursion}
 use Rattle.std.proofs.lemmas.List.Splits.{join_with_byte-slice_split}
 use Rattle.mb_certificate.proofs.CertificateTexts.{AreBasis, Basis, IsProof, Proof, basis_is, basis_written, end_line, ending_is, ending_written, head_is, head_written, order_line, proof_is, proof_text, proof_written, version_line}
-use Rattle.mb_certificate.proofs.ItemLaws.{step_on, stepped}
+use Rattle.mb_text.proofs.RecordSteps.{step_on, stepped}
 use Rattle.mb_certificate.proofs.LineLaws.{lines_at}
 use Rattle.mb_certificate.proofs.LineReaders.{IsMoveLine, in_turn}
 use Rattle.mb_certificate.proofs.ListReaders.{IsRuleLine}

@@ -2,7 +2,7 @@
 use Rattle.std.proofs.Common.{List, Ok, Result, [], ap, append-nil, arith, codes, length, refl, subst, ℕ, ℤ, ◌++◌, ◌+◌, ◌-◌, ◌^◌, ◌∙◌, ◌∷◌, ◌≡◌, ◌≤◌}
 use Rattle.std.specs.Fmt.{decimal}
 use Rattle.std.specs.List.{AllByRecursion, join_with_byte}
-use Rattle.mb_certificate.proofs.ItemLaws.{step_on, stepped}
+use Rattle.mb_text.proofs.RecordSteps.{step_on, stepped}
 use Rattle.mb_certificate.proofs.LineLaws.{Reads, line_is, line_written, lines_at, section_is, section_written, text_left}
 use Rattle.mb_certificate.proofs.LineReaders.{IsMoveLine, counted_reads, move_reads, one_word_reads, order_reads, two_words_reads, word_token}
 use Rattle.mb_certificate.proofs.ListReaders.{IsRuleLine, join_reads, path_reads, rule_reads, start_reads}
@@ -10,7 +10,8 @@ use Rattle.mb_certificate.proofs.MatrixTexts.{matrix_is, matrix_written}
 use Rattle.mb_certificate.proofs.NumberItems.{IsWithin}
 use Rattle.mb_certificate.specs.Certificate.{IsJoin, IsPath, IsStart, Join, Path, Start}
 use Rattle.mb_certificate.specs.CertificateText.{all_of, basis_in, counted, ending_in, entry, head_in, join_in, matrix_in, one_word, order_in, order_name, path_in, proof_in, rule_in, section, start_in, symbol_count, two_words}
-use Rattle.mb_certificate.specs.Reading.{LinesLeft, no_piece_left, says, text_ends}
+use Rattle.mb_certificate.specs.Reading.{LinesLeft, says, text_ends}
+use Rattle.mb_text.specs.RecordLines.{ends}
 use Rattle.mb_certificate.specs.Written.{join_items, matrix_text, move_items, path_items, rule_items, rules_text, section_text, start_items}
 use Rattle.mb_matrix.specs.Matrix.{Design, IsDesign}
 use Rattle.mb_order.specs.Rewriting.{Rule}
@@ -56,7 +57,8 @@ abbrev with_version : Unit {0} × LinesLeft → Result ((Design × Order) × Lin
 with_version version = matrix_in version.1 >>= λ matrix. with_matrix matrix
 
 -- what a certificate begins with is read
-pub head_written : (number : ℕ) (matrix : Design) (order : Order) (rest : List ℕ) → IsDesign matrix →
+pub head_written : (number : ℕ) (matrix : Design) (order : Order) (rest : List ℕ)
+    → IsDesign matrix →
     (m : ℕ) × (head_in
     (lines_at number (version_line ++ (matrix_text matrix ++ (order_line order ++ rest))))
     ≡ Ok ((matrix, order), lines_at m rest))
@@ -364,14 +366,15 @@ ending_written number =
 
 -- a text ends only where nothing is left
 nothing_left : (number : ℕ) (pieces : List (List ℕ)) (x : Unit {0}) →
-    no_piece_left number pieces ≡ Ok x → join_with_byte 10 pieces ≡ []
+    ends number pieces ≡ Ok x → join_with_byte 10 pieces ≡ []
 nothing_left number [] x e = absurd cc
 nothing_left number ([] ∷ []) x e = refl
 nothing_left number ([] ∷ (next ∷ others)) x e = absurd cc
 nothing_left number ((b ∷ line) ∷ others) x e = absurd cc
 
 -- and what is read as the end is it
-pub ending_is : (left : LinesLeft) (x : Unit {0}) → ending_in left ≡ Ok x → text_left left ≡ end_line
+pub ending_is : (left : LinesLeft) (x : Unit {0}) → ending_in left ≡ Ok x
+    → text_left left ≡ end_line
 unfolding ending_in
 ending_is left x e =
     let a = stepped (says (one_word (codes "end")) left) with_last x e in

@@ -1,5 +1,5 @@
 -- Items of a line that are written are read, and what is read is what is written.
-use Rattle.std.proofs.Common.{append-nil, subst, All, Err, List, None, Ok, Option, Result, Some, [], ap, length, map, refl, suc, sym, zero, ℕ, ◌++◌, ◌∙◌, ◌∷◌, ◌≡◌}
+use Rattle.std.proofs.Common.{append-nil, subst, All, List, None, Ok, Option, Result, Some, [], ap, length, map, refl, suc, sym, zero, ℕ, ◌++◌, ◌∙◌, ◌∷◌, ◌≡◌}
 use Rattle.std.proofs.lemmas.List.Elements.{All-head, All-tail}
 use Rattle.std.specs.List.{AllByRecursion}
 use Rattle.std.specs.Option.{option_map}
@@ -7,17 +7,7 @@ use Rattle.mb_certificate.specs.CertificateText.{all_of}
 use Rattle.mb_certificate.specs.Reading.{ItemsLeft, first_item, line_ends, none_left, one, times}
 use Rattle.mb_tables.specs.Answers.{◌>>=◌}
 use Rattle.mb_text.specs.Faults.{in_line}
-
--- a step that goes on, and what comes then
-pub step_on : {A B : Type 0} (step : Result A ℕ) (x : A) (next : A → Result B ℕ) (z : Result B ℕ) →
-    step ≡ Ok x → next x ≡ z → (step >>= next) ≡ z
-step_on step x next z e f = ap (λ (r : Result _ ℕ). r >>= next) e ∙ f
-
--- where all goes on, a step did, and what comes then does
-pub stepped : {A B : Type 0} (step : Result A ℕ) (next : A → Result B ℕ) (z : B) →
-    (step >>= next) ≡ Ok z → (x : A) × (step ≡ Ok x) × (next x ≡ Ok z)
-stepped (Ok x) next z e = (x, refl, e)
-stepped (Err number) next z e = absurd cc
+use Rattle.mb_text.proofs.RecordSteps.{step_on, stepped}
 
 -- items of a line of this number
 abbrev pub items_at : ℕ → List (List ℕ) → ItemsLeft

@@ -12,7 +12,6 @@ pub mod NoFaults
 pub mod NumberItems
 pub mod PieceCases
 pub mod Reasons
-pub mod Refusals
 pub mod Repeats
 pub mod Replays
 pub mod Walking

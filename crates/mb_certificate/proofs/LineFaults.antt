@@ -1,24 +1,26 @@
 -- No line of a list is wrong exactly where the list meets its condition.
 use Rattle.std.proofs.Common.{All, List, None, Option, Some, [], ap, arith, drop, inl, inr, int_eq, length, length-append, nat_eq, nat_le, pos, refl, slice_get, slice_index_or, subst, suc, sym, true, zero, ℕ, ℤ, ◌&&◌, ◌+◌, ◌<◌, ◌∙◌, ◌∷◌, ◌≡◌, ◌≤◌, ◌⊎◌}
-use Rattle.std.proofs.lemmas.Bool.Decides.{Decides-by_and, Decides-eqb, Decides-int_eq, nat_tests}
+use Rattle.std.proofs.lemmas.Bool.{and_from, and_parts, le-leb, leb-true}
+use Rattle.std.proofs.lemmas.Bool.Decides.{Decides-by_and, Decides-eqb, Decides-int_eq}
 use Rattle.std.proofs.lemmas.List.{get_or_past}
 use Rattle.std.proofs.lemmas.List.Elements.{All-head, All-tail}
 use Rattle.std.proofs.lemmas.Option.{slice_get-get_or}
 use Rattle.std.specs.Bool.{Decides}
 use Rattle.std.specs.List.{list_all}
 use Rattle.std.specs.Ordering.{is_gt}
-use Rattle.std.specs.declared.cmp.Ordering.TheVariants.{Equal, Greater, Less}
 use Rattle.std.specs.declared.cmp.Ordering.{Ordering}
-use Rattle.mb_certificate.proofs.Reasons.{both-true, lists-same, none-or, none-unless, or-none, same-lists, true-both, unless-none}
+use Rattle.std.specs.declared.cmp.Ordering.TheVariants.{Equal, Greater, Less}
+use Rattle.mb_certificate.proofs.Reasons.{lists-same, none-unless, same-lists, unless-none}
 use Rattle.mb_certificate.proofs.Replays.{AreWide, made-wide, meet-traces, traces-meet}
 use Rattle.mb_certificate.proofs.Walking.{steps-walk, walk-steps}
 use Rattle.mb_certificate.specs.Certificate.{Join, Path, Start}
 use Rattle.mb_certificate.specs.FirstFault.{are_same, ends_fault, is_light, join_fault, left_over, move_fault, path_fault, peak_fault, replay, rule_fault, start_fault, steps_fault, unless}
 use Rattle.mb_certificate.specs.Valid.{PeakMeets, TracesMeet, Walks, of_cell, of_column, pair_of}
-use Rattle.mb_certificate.specs.declared.line_fault.Reason.TheVariants.{MoveMargins, NotDown, PairMissing, PairNotJoined, PathMissing, PeakTooHeavy, StartNotJoined, WeightDiffers}
 use Rattle.mb_certificate.specs.declared.line_fault.Reason.{Reason}
+use Rattle.mb_certificate.specs.declared.line_fault.Reason.TheVariants.{MoveMargins, NotDown, PairMissing, PairNotJoined, PathMissing, PeakTooHeavy, StartNotJoined, WeightDiffers}
 use Rattle.mb_matrix.specs.Fiber.{AreColumns}
 use Rattle.mb_matrix.specs.Matrix.{Design, IsMove, rows_in}
+use Rattle.mb_order.proofs.PeakLaws.{sides-get}
 use Rattle.mb_order.specs.Limits.{most_weight}
 use Rattle.mb_order.specs.Monomial.{Monomial}
 use Rattle.mb_order.specs.Order.{monomial_cmp}
@@ -26,6 +28,7 @@ use Rattle.mb_order.specs.Peak.{left_of, peak, right_of, sides_of}
 use Rattle.mb_order.specs.Rewriting.{Rule, made}
 use Rattle.mb_order.specs.Weight.{IsLight, weights}
 use Rattle.mb_order.specs.declared.order.Order.{Order}
+use Rattle.mb_tables.proofs.OptionLaws.{none-or, or-none}
 use Rattle.mb_tables.proofs.UnitLaws.{length-unit}
 use Rattle.mb_tables.proofs.VectorLaws.{length-greater, length-zeros}
 use Rattle.mb_tables.specs.Margin.{move_margin}
@@ -108,21 +111,13 @@ none-rule matrix order rule e f =
     (lists-same (weights matrix rule.0) (weights matrix rule.1) e))
     (none-unless (is_gt o) NotDown (ap is_gt f))
 
--- a number is told to be no greater exactly where it is
-le-told : (a b : ℕ) → nat_le a b ≡ true → a ≤ b
-le-told a b e = grind (arith, nat_tests)
-
--- and the other way round
-told-le : (a b : ℕ) → a ≤ b → nat_le a b ≡ true
-told-le a b h = grind (arith, nat_tests)
-
 -- a monomial is told to be light exactly where it is
 light-decided : (matrix : Design) (m : Monomial) →
     Decides (is_light matrix m) (All (λ weight. weight ≤ most_weight) (weights matrix m))
 light-decided matrix m =
     Decides-by_and (λ weight. nat_le weight most_weight) (λ weight. weight ≤ most_weight)
     (list_all (λ weight. nat_le weight most_weight))
-    (λ weight. (le-told weight most_weight, told-le weight most_weight)) refl (λ _ _. refl)
+    (λ weight. (leb-true weight most_weight, le-leb weight most_weight)) refl (λ _ _. refl)
     (weights matrix m)
 
 -- where it is told to be so, it is light on each margin
@@ -147,12 +142,12 @@ is-light matrix m h =
 -- a line after a list, where nothing is left over
 pub none-left : (all count : ℕ) (reason : Reason) → left_over all count reason ≡ None →
     all ≤ count
-none-left all count reason e = le-told all count (unless-none (nat_le all count) reason e)
+none-left all count reason e = leb-true all count (unless-none (nat_le all count) reason e)
 
 -- and the other way round
 pub left-none : (all count : ℕ) (reason : Reason) → all ≤ count →
     left_over all count reason ≡ None
-left-none all count reason h = none-unless (nat_le all count) reason (told-le all count h)
+left-none all count reason h = none-unless (nat_le all count) reason (le-leb all count h)
 
 -- the column of a cell has an entry for each margin
 column-high : (d : ℕ) (columns : List (List ℕ)) (j : ℕ) (column : List ℕ) →
@@ -161,13 +156,6 @@ column-high d [] j column h e = cc
 column-high d (b ∷ columns) zero column h e =
     let f : b ≡ column = cc in ap length (sym f) ∙ (h.0).high
 column-high d (b ∷ columns) (suc j) column h e = column-high d columns j column h.1 e
-
--- the sides of a rule that is there
-pub sides-get : (rules : List Rule) (k : ℕ) → k < length rules →
-    slice_get rules k ≡ Some (sides_of rules k)
-sides-get [] k l = absurd (omega arith)
-sides-get (x ∷ rules) zero l = refl
-sides-get (x ∷ rules) (suc k) l = sides-get rules k (omega arith)
 
 module _ (matrix : Design) (rules : List Rule)
     (wide : AreWide (matrix.rows + length matrix.columns) rules) where
@@ -276,7 +264,7 @@ module _ (matrix : Design) (rules : List Rule)
       let b = nat_eq pair.1 join.high in
       let r = or-none (unless (a && b) PairMissing)
       (peak_fault matrix rules join (sides_of rules join.low) (sides_of rules join.high)) e in
-      let both = both-true a b (unless-none (a && b) PairMissing r.0) in
+      let both = and_parts a b (unless-none (a && b) PairMissing r.0) in
       let f : pair.0 ≡ join.low = (Decides-eqb pair.0 join.low).0 both.0 in
       let g : pair.1 ≡ join.high = (Decides-eqb pair.1 join.high).0 both.1 in (
         ap (λ i. let p : ℕ × ℕ = (i, pair.1) in Some p) f
@@ -302,7 +290,7 @@ module _ (matrix : Design) (rules : List Rule)
       ∙ none-or (unless (a && b) PairMissing)
       (peak_fault matrix rules join (sides_of rules join.low) (sides_of rules join.high))
       (none-unless (a && b) PairMissing
-      (true-both a b ((Decides-eqb join.low join.low).1 refl)
+      (and_from a b ((Decides-eqb join.low join.low).1 refl)
       ((Decides-eqb join.high join.high).1 refl)))
       (none-peak join l m h)
 

@@ -2,17 +2,19 @@
 use Rattle.std.proofs.Common.{All, List, Ok, Result, [], ap, append_assoc, arith, false, length, length-append, map, refl, suc, subst, sym, zero, ℕ, ◌++◌, ◌+◌, ◌<◌, ◌==◌, ◌∙◌, ◌∷◌, ◌≡◌, ◌≢◌}
 use Rattle.std.proofs.lemmas.Bool.Decides.{nat_tests}
 use Rattle.std.proofs.lemmas.List.Elements.{All-head}
-use Rattle.std.proofs.lemmas.List.Splits.{join_with_byte-slice_split}
 use Rattle.std.specs.Fmt.{decimal}
 use Rattle.std.specs.List.{AllByRecursion, flat_map, join_with_byte}
-use Rattle.mb_certificate.proofs.ItemLaws.{items_at, step_on, stepped}
+use Rattle.mb_certificate.proofs.ItemLaws.{items_at}
 use Rattle.mb_certificate.proofs.NumberItems.{IsWithin}
-use Rattle.mb_certificate.proofs.PieceCases.{first_line_is, some_piece}
+use Rattle.mb_certificate.proofs.PieceCases.{first_line_is}
 use Rattle.mb_certificate.specs.CertificateText.{counted, section}
 use Rattle.mb_certificate.specs.Reading.{ItemsLeft, LinesLeft, first_line, next_line, says, times}
 use Rattle.mb_certificate.specs.Written.{section_text}
 use Rattle.mb_tables.specs.Answers.{◌>>=◌}
+use Rattle.mb_text.proofs.PieceCases.{some_piece}
 use Rattle.mb_text.proofs.PieceLaws.{first_line as line_cut, pieces_again}
+use Rattle.mb_text.proofs.RecordSteps.{step_on, stepped}
+use Rattle.mb_text.proofs.SaidLines.{line_joined}
 use Rattle.mb_text.specs.Laws.{Lacks}
 use Rattle.mb_text.specs.Lines.{items, line, lines}
 use Rattle.mb_text.specs.Tokens.{IsToken, is_blank}
@@ -64,15 +66,6 @@ filled (x ∷ y ∷ list) some each =
     let long = token_long x (All-head IsToken x (y ∷ list) each).some in
     let both = length-append x (32 ∷ join_with_byte 32 (y ∷ list)) in
     omega arith
-
--- a line of these items and what follows it
-line_joined : (first : List ℕ) (list : List (List ℕ)) (rest : List ℕ) →
-    items first ≡ list → first ++ 10 ∷ rest ≡ line list ++ rest
-unfolding line
-line_joined first list rest e =
-    ap (λ text. text ++ 10 ∷ rest)
-    (sym (join_with_byte-slice_split 32 first) ∙ ap (join_with_byte 32) e)
-    ∙ sym (append_assoc (join_with_byte 32 list) (10 ∷ []) rest)
 
 -- a line that was taken
 record Taken (pieces : List (List ℕ)) (found : ItemsLeft) (rest : LinesLeft) : Type 0 where

@@ -6,23 +6,21 @@ use Rattle.std.proofs.lemmas.Slice.Eq.{bytes_eq-Decides}
 use Rattle.std.specs.Fmt.{decimal, signed_decimal}
 use Rattle.std.specs.List.{AllByRecursion, list_all}
 use Rattle.std.specs.Str.{bytes_eq}
-use Rattle.mb_certificate.proofs.ItemLaws.{all_of_read, ended, items_at, one_read, one_written, step_on, stepped, times_written}
+use Rattle.mb_certificate.proofs.ItemLaws.{all_of_read, ended, items_at, one_read, one_written, times_written}
+use Rattle.mb_text.proofs.RecordSteps.{step_on, stepped}
 use Rattle.mb_certificate.proofs.LineLaws.{Reads}
 use Rattle.mb_certificate.proofs.NumberItems.{IsWithin, entry_read, entry_small, entry_written, within_read, within_written, word_read, word_written}
 use Rattle.mb_certificate.specs.Certificate.{AreNumbers}
 use Rattle.mb_certificate.specs.CertificateText.{all_of, counted, entry, one_word, order_in, order_name, order_named, sizes_in, two_words}
-use Rattle.mb_certificate.specs.Reading.{ItemsLeft, line_ends, number_within, one, times, word}
+use Rattle.mb_certificate.specs.Reading.{ItemsLeft, line_ends, one, times, word}
+use Rattle.mb_text.specs.Plain.{number_within}
 use Rattle.mb_order.specs.declared.order.Order.TheVariants.{Grevlex, Lex}
 use Rattle.mb_order.specs.declared.order.Order.{Order}
 use Rattle.mb_tables.specs.Answers.{◌>>=◌}
 use Rattle.mb_tables.specs.Entries.{IsEntry}
 use Rattle.mb_text.proofs.LineTokens.{token-signed_decimal}
 use Rattle.mb_text.specs.Tokens.{IsToken, is_blank}
-
--- what isn't true when turned round
-turned : (t : Bool) → not t ≡ true → t ≡ false
-turned true e = absurd cc
-turned false e = refl
+use Rattle.std.proofs.lemmas.Bool.{not-true}
 
 -- a word is a token
 pub word_token : (name : List ℕ) → 0 < length name → list_all (λ b. not (is_blank b)) name ≡ true →
@@ -30,7 +28,7 @@ pub word_token : (name : List ℕ) → 0 < length name → list_all (λ b. not (
 word_token name some e = record {
   some = λ none. let n = ap length none in omega arith;
   plain =
-      λ k d l. turned (is_blank (get_or name k d))
+      λ k d l. not-true (is_blank (get_or name k d))
       (AllPass-from_list_all (λ b. not (is_blank b)) name e k d l);
 }
 
@@ -39,7 +37,8 @@ pub decimal_token : (n : ℕ) → n < 10 ^ 64 → IsToken (decimal n)
 decimal_token n small = token-signed_decimal (pos n) small
 
 -- one token in front of others
-pub front : (x : List ℕ) (list : List (List ℕ)) → IsToken x → All IsToken list → All IsToken (x ∷ list)
+pub front : (x : List ℕ) (list : List (List ℕ)) → IsToken x → All IsToken list
+    → All IsToken (x ∷ list)
 front x list one others =
     All-append IsToken (x ∷ []) list (All-from_recursion IsToken (x ∷ []) (one, tt)) others
 

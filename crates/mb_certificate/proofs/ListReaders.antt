@@ -2,10 +2,12 @@
 use Rattle.std.proofs.Common.{All, List, Ok, Result, Some, [], ap, arith, codes, length, map, refl, subst, sym, ℕ, ℤ, ◌++◌, ◌-◌, ◌<◌, ◌^◌, ◌∙◌, ◌∷◌, ◌≡◌, ◌≢◌, ◌≤◌}
 use Rattle.std.proofs.lemmas.List.Elements.{All-append, All-from_recursion, All-map}
 use Rattle.std.specs.Fmt.{decimal, signed_decimal}
-use Rattle.mb_certificate.proofs.ItemLaws.{all_of_read, items_at, one_read, one_written, step_on, stepped, times_read, times_written}
+use Rattle.mb_certificate.proofs.ItemLaws.{all_of_read, items_at, one_read, one_written, times_read, times_written}
+use Rattle.mb_text.proofs.RecordSteps.{step_on, stepped}
 use Rattle.mb_certificate.proofs.LineLaws.{Reads}
 use Rattle.mb_certificate.proofs.LineReaders.{all_written, decimal_token, front, number_tokens, word_token}
-use Rattle.mb_certificate.proofs.NumberItems.{number_read, number_written, signed_number_read, signed_number_written, word_read, word_written}
+use Rattle.mb_certificate.proofs.NumberItems.{signed_number_read, signed_number_written, word_read, word_written}
+use Rattle.mb_text.proofs.NumeralItems.{number_read, number_written}
 use Rattle.mb_certificate.specs.Certificate.{AreTraces, IsJoin, IsPath, IsSigned, IsStart, Join, Path, Start}
 use Rattle.mb_certificate.specs.CertificateText.{all_of, exponent, join_in, list_length, path_in, rule_in, rule_number, signed_number, start_in, traces_in}
 use Rattle.mb_certificate.specs.Reading.{ItemsLeft, one, times, word}
@@ -71,7 +73,8 @@ after_arrow symbols left arrow = all_of exponent symbols arrow.1 >>= λ right. O
 
 -- after the left side
 abbrev after_left : ℕ → List ℕ × ItemsLeft → Result Rule ℕ
-after_left symbols left = one (word (codes ">")) left.1 >>= λ arrow. after_arrow symbols left.0 arrow
+after_left symbols left = one (word (codes ">")) left.1
+    >>= λ arrow. after_arrow symbols left.0 arrow
 
 -- exponents are tokens
 exponent_tokens : (list : List ℕ) → All IsExponent list → All IsToken (map decimal list)

@@ -1,29 +1,30 @@
 -- The lines of a matrix, both ways.
 use Rattle.std.proofs.Common.{All, Bool, Err, List, Ok, Result, [], ap, append_assoc, arith, cond, false, get_or, length, map, pos, refl, subst, sym, true, ℕ, ℤ, ◌++◌, ◌+◌, ◌-◌, ◌<◌, ◌∙◌, ◌∷◌, ◌≡◌, ◌≤◌, codes}
-use Rattle.std.proofs.lemmas.Bool.Decides.{nat_tests}
-use Rattle.std.proofs.lemmas.Grind.{get_or_default_zero}
 use Rattle.std.proofs.lemmas.Int.{ints}
 use Rattle.std.proofs.lemmas.List.{length-map}
 use Rattle.std.proofs.lemmas.List.Elements.{All-from_recursion, All-map}
 use Rattle.std.proofs.lemmas.List.Sums.{list_all-from_AllPass}
-use Rattle.std.proofs.lemmas.Simd.{map-map}
 use Rattle.std.specs.Fmt.{decimal, signed_decimal}
-use Rattle.std.specs.List.{AllByRecursion, flat_map, list_all, range_with_len}
-use Rattle.mb_certificate.proofs.ItemLaws.{items_at, step_on, stepped}
+use Rattle.std.specs.List.{AllByRecursion, flat_map, list_all}
+use Rattle.mb_certificate.proofs.ItemLaws.{items_at}
+use Rattle.mb_text.proofs.RecordSteps.{accepted_at, step_on, stepped}
 use Rattle.mb_certificate.proofs.LineLaws.{Reads, line_is, line_written, lines_are, lines_at, lines_written, text_left}
 use Rattle.mb_certificate.proofs.LineReaders.{AreSizes, IsMoveLine, in_turn, move_reads, sizes_reads}
-use Rattle.mb_matrix.proofs.MatrixOfRows.{is_of_rows, row_long, rows_array}
-use Rattle.mb_certificate.specs.CertificateText.{all_of, entry, is_design_entry, matrix_in, or_line, row_in, sizes_in}
+use Rattle.mb_matrix.proofs.MatrixOfRows.{is_of_rows, row_long, row_small, rows_array, small-is_entry}
+use Rattle.mb_certificate.specs.CertificateText.{all_of, entry, matrix_in, row_in, sizes_in}
+use Rattle.mb_text.specs.Faults.{or_line}
 use Rattle.mb_certificate.specs.Reading.{LinesLeft, says, times}
-use Rattle.mb_certificate.specs.Written.{matrix_text, row_lines}
-use Rattle.mb_matrix.proofs.NoFault.{accepted, no_fault}
-use Rattle.mb_matrix.proofs.RowsAndColumns.{entry_small, get_or-rows_in, length-columns, length-rows_in, rows-design_of, rows_in-design_of}
+use Rattle.mb_certificate.specs.Written.{matrix_text}
+use Rattle.mb_moves.specs.Written.{row_lines}
+use Rattle.mb_matrix.proofs.NoFault.{matrix_accepted}
+use Rattle.mb_matrix.proofs.RowsAndColumns.{get_or-rows_in, length-rows_in}
 use Rattle.mb_matrix.specs.Faults.{matrix_of}
-use Rattle.mb_matrix.specs.Matrix.{Design, IsDesign, row_of, rows_in}
+use Rattle.mb_matrix.specs.Matrix.{Design, IsDesign, is_design_entry, row_of, rows_in}
 use Rattle.mb_tables.specs.Answers.{◌>>=◌}
 use Rattle.mb_tables.specs.Entries.{IsEntry}
 use Rattle.mb_tables.specs.Rows.{Rows}
 use Rattle.mb_text.specs.Lines.{line}
+use Rattle.mb_moves.proofs.RowLines.{lines_of_rows}
 
 -- a row of so many cells, each 0 to 1,000
 pub record IsRowLine (cells : ℕ) (row : List ℤ) : Type 0 where
@@ -75,39 +76,11 @@ abbrev with_sizes : (ℕ × ℕ) × LinesLeft → Result (Design × LinesLeft) �
 with_sizes sizes =
     times (says (row_in sizes.0.1)) sizes.0.0 sizes.1 >>= λ rows. with_rows sizes.0.1 rows
 
--- maps by equal functions
-same_maps : {X Y : Type 0} (f g : X → Y) → ((x : X) → f x ≡ g x) → (xs : List X) →
-    map f xs ≡ map g xs
-same_maps f g h [] = refl
-same_maps f g h (x ∷ xs) =
-    ap (λ y. y ∷ map f xs) (h x) ∙ ap (λ ys. g x ∷ ys) (same_maps f g h xs)
-
--- the lines of a matrix are those of its rows
-lines_of_rows : (matrix : Design) →
-    map (map signed_decimal) (rows_in matrix) ≡ row_lines matrix
-lines_of_rows matrix =
-    map-map (map signed_decimal) (λ i. map pos (row_of matrix i)) (range_with_len 0 matrix.rows)
-    ∙ same_maps (λ i. map signed_decimal (map pos (row_of matrix i)))
-    (λ i. map decimal (row_of matrix i)) (λ i. map-map signed_decimal pos (row_of matrix i))
-    (range_with_len 0 matrix.rows)
-
--- a number up to 1,000 is an entry of a matrix
-small_entries : (n : ℕ) → n ≤ 1000 → is_design_entry (pos n) ≡ true
-small_entries n small = grind (arith, ints, nat_tests)
-
--- and of a move
+-- a number up to 1,000 is an entry of a move
 small_is_entry : (n : ℕ) → n ≤ 1000 → IsEntry (pos n)
 small_is_entry n small = (grind (arith, ints, small), grind (arith, ints, small))
 
 module _ (matrix : Design) (sound : IsDesign matrix) where
-  -- the numbers of a row are small
-  row_small : (i : ℕ) → i < matrix.rows → All (λ n. n ≤ 1000) (row_of matrix i)
-  row_small i l k d m =
-      let wide : k < length matrix.columns = let e = row_long matrix sound i in omega arith in
-      let same = get_or_default_zero (row_of matrix i) k d m in
-      let small = entry_small matrix i k sound l wide in
-      omega arith
-
   -- each row is one
   row_is : (i : ℕ) → i < matrix.rows →
       IsRowLine (length matrix.columns) (map pos (row_of matrix i))
@@ -116,12 +89,14 @@ module _ (matrix : Design) (sound : IsDesign matrix) where
       long = length-map (row_of matrix i) pos ∙ row_long matrix sound i;
       entries =
           All-map IsEntry pos (row_of matrix i)
-          (λ k d m. small_is_entry (get_or (row_of matrix i) k d) (row_small i l k d m));
+          (λ k d m. small_is_entry (get_or (row_of matrix i) k d)
+          (row_small matrix sound i l k d m));
     };
     small =
         list_all-from_AllPass is_design_entry (map pos (row_of matrix i))
         (All-map (λ z. is_design_entry z ≡ true) pos (row_of matrix i)
-        (λ k d m. small_entries (get_or (row_of matrix i) k d) (row_small i l k d m)));
+        (λ k d m. small-is_entry (get_or (row_of matrix i) k d)
+        (row_small matrix sound i l k d m)));
   }
 
   -- so are all
@@ -169,40 +144,11 @@ module _ (matrix : Design) (sound : IsDesign matrix) where
             (ap (or_line (more.0 - 1)) (is_of_rows matrix sound)) refl)),
       )
 
--- what is refused at a line goes on only where it is accepted
-accepted_at : {A F : Type 0} (number : ℕ) (r : Result A F) (x : A) → or_line number r ≡ Ok x →
-    r ≡ Ok x
-accepted_at number (Ok y) x e = ap Ok cc
-accepted_at number (Err fault) x e = absurd cc
-
 -- a row that was read has so many cells
 row_wide : (cells : ℕ) (rows : List (List ℤ)) → AllByRecursion (IsRowLine cells) rows →
     AllByRecursion (λ row. length row ≡ cells) rows
 row_wide cells [] each = tt
 row_wide cells (row ∷ rows) each = (each.0.move.long, row_wide cells rows each.1)
-
--- what a matrix is whose rows were read
-record MatrixRead (cells count : ℕ) (matrix : Design) (rows : List (List ℤ)) : Type 0 where
-  pub sound : IsDesign matrix
-  pub rows_are : rows_in matrix ≡ rows
-  pub high : matrix.rows ≡ count
-  pub long : length matrix.columns ≡ cells
-
--- so is each
-matrix_read : (cells count : ℕ) (matrix : Design) (rows : List (List ℤ)) → length rows ≡ count →
-    All (λ row. length row ≡ cells) rows →
-    matrix_of (record { width = cells; rows = rows }) ≡ Ok matrix →
-    MatrixRead cells count matrix rows
-matrix_read cells count matrix rows many wide e =
-    let array : Rows = record { width = cells; rows = rows } in
-    let is = accepted array matrix e in
-    let no = no_fault array wide is.0 in
-    record {
-      sound = subst IsDesign (sym is.1) no.design;
-      rows_are = ap rows_in is.1 ∙ rows_in-design_of array wide no.entries;
-      high = ap (λ (m : Design). m.rows) is.1 ∙ rows-design_of array ∙ many;
-      long = ap (λ (m : Design). length m.columns) is.1 ∙ length-columns array;
-    }
 
 -- a matrix that was read is what is written of it
 pub matrix_is : (left rest : LinesLeft) (matrix : Design) → matrix_in left ≡ Ok (matrix, rest) →
@@ -231,8 +177,9 @@ matrix_is left rest matrix e =
     let made =
     accepted_at (b.0.1.number - 1) (matrix_of array) matrix (c.1 ∙ ap Ok same) in
     let found =
-    matrix_read cells count matrix b.0.0 rows.2
+    matrix_accepted array matrix
     (All-from_recursion (λ row. length row ≡ cells) b.0.0 (row_wide cells b.0.0 rows.1)) made in
+    let high : matrix.rows ≡ count = found.high ∙ rows.2 in
     let lines_are = ap (map (map signed_decimal)) (sym found.rows_are) ∙ lines_of_rows matrix in
     let first : ℕ → ℕ → List ℕ =
     λ n k. line (codes "matrix" ∷ decimal n ∷ decimal k ∷ []) in (
@@ -241,10 +188,10 @@ matrix_is left rest matrix e =
           (rows.0 ∙ ap (λ list. flat_map line list ++ text_left b.0.1) lines_are
           ∙ ap (λ t. flat_map line (row_lines matrix) ++ t) after)
           ∙ ap (λ n. first n cells ++ (flat_map line (row_lines matrix) ++ text_left rest))
-          (sym found.high)
+          (sym high)
           ∙ ap (λ n. first matrix.rows n
           ++ (flat_map line (row_lines matrix) ++ text_left rest)) (sym found.long)
           ∙ sym (append_assoc (first matrix.rows (length matrix.columns))
           (flat_map line (row_lines matrix)) (text_left rest)),
-      found.sound,
+      found.design,
     )

@@ -1,59 +1,24 @@
 -- Numbers as items of a line, written and read.
-use Rattle.std.proofs.Common.{Bool, None, Option, Some, ap, arith, cond, false, List, nat_le, pos, refl, true, unsigned_abs, ℕ, ℤ, ◌-◌, ◌<◌, ◌^◌, ◌∙◌, ◌≡◌, ◌≤◌, ◌≢◌, negsuc, suc, zero}
-use Rattle.std.proofs.lemmas.Bool.Decides.{nat_tests}
+use Rattle.std.proofs.Common.{None, Option, Some, ap, arith, cond, List, nat_le, pos, refl, unsigned_abs, ℕ, ℤ, ◌-◌, ◌<◌, ◌^◌, ◌∙◌, ◌≡◌, ◌≤◌, ◌≢◌, negsuc, suc, zero}
+use Rattle.std.proofs.lemmas.Bool.{le-leb, leb-true}
 use Rattle.std.proofs.lemmas.Int.{ints}
 use Rattle.std.proofs.lemmas.Slice.Eq.{bytes_eq-Decides}
 use Rattle.std.specs.Fmt.{decimal, signed_decimal}
 use Rattle.std.specs.Str.{bytes_eq}
 use Rattle.mb_certificate.specs.Certificate.{IsSigned}
 use Rattle.mb_certificate.specs.CertificateText.{entry, signed_number, unless_zero}
-use Rattle.mb_certificate.specs.Reading.{at_least, number_within, word}
+use Rattle.mb_certificate.specs.Reading.{word}
 use Rattle.mb_tables.specs.Entries.{IsEntry}
-use Rattle.mb_text.proofs.DecimalForms.{decimal_is_plain, plain_is_decimal}
+use Rattle.mb_text.proofs.NumeralItems.{let_through, number_read, number_written}
 use Rattle.mb_text.proofs.SpellingLaws.{decimal_is_signed, signed_is_decimal}
-use Rattle.mb_text.specs.Plain.{at_most, plain_of, plain_signed_of, size_at_most}
-
--- a value that was let through is the one that was tested
-pub let_through : {A : Type 0} (t : Bool) (x y : A) → cond t (Some x) None ≡ Some y →
-    (t ≡ true) × (x ≡ y)
-let_through true x y e = (refl, cc)
-let_through false x y e = absurd cc
-
--- a number up to a limit passes
-at_most-true : (highest n : ℕ) → n ≤ highest → nat_le n highest ≡ true
-at_most-true highest n small = grind (arith, nat_tests, small)
-
--- and what passes is one
-at_most-only : (highest n : ℕ) → nat_le n highest ≡ true → n ≤ highest
-at_most-only highest n e = grind (arith, nat_tests, e)
-
--- a number is read from its decimal form
-pub number_written : (highest n : ℕ) → highest < 10 ^ 64 → n ≤ highest →
-    at_most highest (plain_of (decimal n)) ≡ Some n
-number_written highest n far small =
-    ap (at_most highest) (decimal_is_plain n (omega arith))
-    ∙ ap (λ t. cond t (Some n) None) (at_most-true highest n small)
-
--- and an item that is read as one is its decimal form
-pub number_read : (highest : ℕ) (item : List ℕ) (n : ℕ) → highest < 10 ^ 64 →
-    at_most highest (plain_of item) ≡ Some n → (item ≡ decimal n) × (n ≤ highest)
-number_read highest item n far e = by (plain_of item) refl e
-  where
-    by : (number : Option ℕ) → plain_of item ≡ number → at_most highest number ≡ Some n →
-        (item ≡ decimal n) × (n ≤ highest)
-    by None em f = absurd cc
-    by (Some m) em f =
-        let passed = let_through (nat_le m highest) m n f in
-        let same = passed.1 in
-        let small = at_most-only highest m passed.0 in
-        (plain_is_decimal item n (omega arith) (em ∙ ap Some same), omega arith)
+use Rattle.mb_text.specs.Plain.{at_least, at_most, number_within, plain_of, plain_signed_of, size_at_most}
 
 -- a number with a sign is read from its decimal form
 signed_written : (highest : ℕ) (z : ℤ) → highest < 10 ^ 64 → unsigned_abs z ≤ highest →
     size_at_most highest (plain_signed_of (signed_decimal z)) ≡ Some z
 signed_written highest z far small =
     ap (size_at_most highest) (decimal_is_signed z (omega arith))
-    ∙ ap (λ t. cond t (Some z) None) (at_most-true highest (unsigned_abs z) small)
+    ∙ ap (λ t. cond t (Some z) None) (le-leb (unsigned_abs z) highest small)
 
 -- and an item that is read as one is its decimal form
 signed_read : (highest : ℕ) (item : List ℕ) (z : ℤ) → highest < 10 ^ 64 →
@@ -67,7 +32,7 @@ signed_read highest item z far e = by (plain_signed_of item) refl e
     by None ey f = absurd cc
     by (Some y) ey f =
         let passed = let_through (nat_le (unsigned_abs y) highest) y z f in
-        let small = at_most-only highest (unsigned_abs y) passed.0 in
+        let small = leb-true (unsigned_abs y) highest passed.0 in
         let same : unsigned_abs y ≡ unsigned_abs z = ap unsigned_abs passed.1 in (
           signed_is_decimal item z (omega arith) (ey ∙ ap Some passed.1),
           omega arith,
@@ -131,7 +96,7 @@ pub within_written : (lowest highest n : ℕ) → highest < 10 ^ 64 → IsWithin
     number_within lowest highest (decimal n) ≡ Some n
 within_written lowest highest n far is =
     ap (at_least lowest) (number_written highest n far is.high)
-    ∙ ap (λ t. cond t (Some n) None) (at_most-true n lowest is.low)
+    ∙ ap (λ t. cond t (Some n) None) (le-leb lowest n is.low)
 
 -- and an item that is read as one is it
 pub within_read : (lowest highest : ℕ) (item : List ℕ) (n : ℕ) → highest < 10 ^ 64 →
@@ -144,7 +109,7 @@ within_read lowest highest item n far e = by (at_most highest (plain_of item)) r
     by (Some m) em f =
         let passed = let_through (nat_le lowest m) m n f in
         let same = passed.1 in
-        let low = at_most-only m lowest passed.0 in
+        let low = leb-true lowest m passed.0 in
         let read = number_read highest item n far (em ∙ ap Some same) in
         (read.0, record { low = omega arith; high = read.1 })
 

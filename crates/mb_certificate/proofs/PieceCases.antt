@@ -2,15 +2,12 @@
 use Rattle.std.proofs.Common.{Bool, Err, List, Ok, [], ap, arith, false, length, refl, sym, ℕ, ◌++◌, ◌+◌, ◌<◌, ◌==◌, ◌∙◌, ◌∷◌, ◌≡◌}
 use Rattle.std.proofs.lemmas.Bool.Decides.{nat_tests}
 use Rattle.std.proofs.lemmas.List.{length-append}
-use Rattle.std.proofs.lemmas.List.Splits.{join_with_byte-slice_split, length-slice_split}
+use Rattle.std.proofs.lemmas.List.Splits.{join_with_byte-slice_split}
 use Rattle.std.specs.List.{join_with_byte}
-use Rattle.mb_certificate.specs.Reading.{first_line, no_piece_left, none_left}
+use Rattle.mb_certificate.specs.Reading.{first_line, none_left}
 use Rattle.mb_certificate.specs.loops.Counted.{AreCounted}
+use Rattle.mb_text.proofs.PieceCases.{some_piece}
 use Rattle.mb_text.specs.Lines.{items, lines, pieces}
-
--- there is a piece in any case
-pub some_piece : (byte : ℕ) (text : List ℕ) → 0 < length (pieces byte text)
-some_piece byte text = let e = length-slice_split (λ b. b == byte) text in omega arith
 
 -- the first line, where other pieces follow it
 pub first_line_is : (number : ℕ) (all : List (List ℕ)) (line : List ℕ) (others : List (List ℕ)) →
@@ -45,17 +42,6 @@ counted_on number text line rest is e some =
     let fits = is.fits in
     let left = is.left in
     record { first = omega arith; fits = omega arith; left = omega arith }
-
--- a text with bytes in it doesn't end here
-pub no_piece-not : (number : ℕ) (text : List ℕ) → (text ≡ [] → ⊥) →
-    no_piece_left number (lines text) ≡ Err number
-no_piece-not number text some = by (lines text) (sym (join_with_byte-slice_split 10 text))
-  where
-    by : (all : List (List ℕ)) → text ≡ join_with_byte 10 all → no_piece_left number all ≡ Err number
-    by [] e = refl
-    by ([] ∷ []) e = absurd (some e)
-    by ([] ∷ (next ∷ others)) e = refl
-    by ((b ∷ line) ∷ others) e = refl
 
 -- a line with items left doesn't end here
 pub none_left-not : (number : ℕ) (rest : List ℕ) → none_left number (items rest) ≡ Err number

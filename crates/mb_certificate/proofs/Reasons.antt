@@ -1,6 +1,5 @@
 -- Where there is no reason, each test passes.
-use Rattle.std.proofs.Common.{Bool, List, None, Option, Some, ap, false, refl, sym, true, ℕ, ◌&&◌, ◌∙◌, ◌≡◌}
-use Rattle.std.specs.Option.{option_or}
+use Rattle.std.proofs.Common.{Bool, List, None, Option, Some, ap, false, refl, sym, true, ℕ, ◌∙◌, ◌≡◌}
 use Rattle.mb_certificate.specs.FirstFault.{are_same, ends_fault, unless}
 use Rattle.mb_certificate.specs.declared.line_fault.Reason.{Reason}
 use Rattle.mb_order.specs.Monomial.{Monomial}
@@ -14,24 +13,6 @@ unless-none false r e = cc
 -- and the other way round
 pub none-unless : (b : Bool) (r : Reason) → b ≡ true → unless b r ≡ None
 none-unless b r e = ap (λ t. unless t r) e
-
--- there is no first of two reasons where there is neither
-pub or-none : (a b : Option Reason) → option_or a b ≡ None → (a ≡ None) × (b ≡ None)
-or-none None b e = (refl, e)
-or-none (Some r) b e = cc
-
--- and the other way round
-pub none-or : (a b : Option Reason) → a ≡ None → b ≡ None → option_or a b ≡ None
-none-or a b e f = ap (λ x. option_or x b) e ∙ f
-
--- both of two tests that pass together
-pub both-true : (a b : Bool) → (a && b) ≡ true → (a ≡ true) × (b ≡ true)
-both-true true b e = (refl, e)
-both-true false b e = cc
-
--- and the other way round
-pub true-both : (a b : Bool) → a ≡ true → b ≡ true → (a && b) ≡ true
-true-both a b e f = ap (λ t. t && b) e ∙ f
 
 -- lists that are told to be the same are so
 pub same-lists : (u v : List ℕ) → are_same u v ≡ true → u ≡ v

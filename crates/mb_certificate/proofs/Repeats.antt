@@ -1,7 +1,7 @@
 -- Steps that are repeated, one after the other, by a loop that counts them.
 use Rattle.std.proofs.Common.{Err, List, Ok, Option, Result, [], ap, append_assoc, append-nil, arith, length, length-append, refl, suc, sym, zero, ℕ, ◌++◌, ◌+◌, ◌-◌, ◌<◌, ◌∙◌, ◌∷◌, ◌≡◌, ◌≤◌}
-use Rattle.mb_certificate.proofs.Refusals.{refused_on}
 use Rattle.mb_certificate.specs.Reading.{times}
+use Rattle.mb_tables.proofs.HandedOn.{refused_on}
 use Rattle.mb_tables.specs.Answers.{IsRefused, ◌>>=◌}
 
 module _ {A S : Type 0} where

@@ -1,16 +1,19 @@
 -- The table that signed numbers make of another is where they lead.
-use Rattle.std.proofs.Common.{List, None, Option, Some, [], ap, arith, map, neg_ℤ, negsuc, pos, refl, slice_get, subst, suc, sym, true, zero, ℕ, ℤ, ◌+ℤ◌, ◌∙◌, ◌∷◌, ◌≡◌}
+use Rattle.std.proofs.Common.{List, None, Option, Some, [], ap, arith, inl, inr, length, map, neg_ℤ, negsuc, pos, refl, slice_get, subst, suc, sym, true, zero, ℕ, ℤ, ◌+ℤ◌, ◌∙◌, ◌∷◌, ◌≡◌}
+use Rattle.std.proofs.lemmas.Bool.{and_from}
 use Rattle.std.proofs.lemmas.Bool.Decides.{nat_tests}
 use Rattle.std.proofs.lemmas.Int.{ints}
 use Rattle.std.proofs.lemmas.Option.{option_and_then_some}
 use Rattle.std.specs.List.{list_all}
 use Rattle.std.specs.Option.{option_and_then}
-use Rattle.mb_certificate.proofs.Reasons.{lists-same, none-or, none-unless, or-none, same-lists, true-both, unless-none}
+use Rattle.mb_certificate.proofs.Reasons.{lists-same, none-unless, same-lists, unless-none}
 use Rattle.mb_certificate.specs.FirstFault.{added, are_same, count_of, end_fault, moved_by, names_move, steps_fault, unless, walk}
 use Rattle.mb_certificate.specs.Valid.{MovesBy, Walks}
 use Rattle.mb_certificate.specs.declared.line_fault.Reason.TheVariants.{PathEnd, StepNotApplicable}
 use Rattle.mb_tables.proofs.ListLaws.{place-within}
-use Rattle.mb_tables.specs.Step.{Adds}
+use Rattle.mb_tables.proofs.OptionLaws.{none-or, or-none}
+use Rattle.mb_tables.specs.Chain.{Chain, Joined}
+use Rattle.mb_tables.specs.Step.{Adds, OneApart}
 
 -- a number that is a count
 count-is : (z : ℤ) (y : ℕ) → count_of z ≡ Some y → pos y ≡ z
@@ -120,7 +123,7 @@ unfolding walk Walks
 Walks-walk moves [] u v h = (refl, ap Some h)
 Walks-walk moves (step ∷ steps) u v h =
     let r = Walks-walk moves steps h.0 v h.2 in (
-      true-both (names_move moves step) (list_all (names_move moves) steps)
+      and_from (names_move moves step) (list_all (names_move moves) steps)
           (names moves step u h.0 h.1) r.0,
       ap (option_and_then (λ next. walk moves steps next)) (MovesBy-moved moves step u h.0 h.1)
           ∙ r.1,
@@ -148,3 +151,36 @@ walk-steps moves steps u v h =
     (end_fault v (walk moves steps u))
     (none-unless (list_all (names_move moves) steps) StepNotApplicable r.0)
     (ap (end_fault v) r.1 ∙ none-unless (are_same v v) PathEnd (lists-same v v refl))
+
+-- a signed number leads one step
+pub moved-apart : (moves : List (List ℤ)) (step : ℤ) (u v : List ℕ) → MovesBy moves step u v →
+    OneApart moves u v
+moved-apart moves (pos zero) u v h = absurd h
+moved-apart moves (pos (suc k)) u v h = (k, h.0, h.1, inl h.2)
+moved-apart moves (negsuc k) u v h = (k, h.0, h.1, inr h.2)
+
+-- and one step is that of a signed number
+pub apart-moved : (moves : List (List ℤ)) (u v : List ℕ) → OneApart moves u v →
+    (step : ℤ) × MovesBy moves step u v
+apart-moved moves u v (k, move, there, inl a) = (pos (suc k), (move, there, a))
+apart-moved moves u v (k, move, there, inr a) = (negsuc k, (move, there, a))
+
+-- tables that signed numbers lead to each other are joined
+pub walk-joined : (moves : List (List ℤ)) (steps : List ℤ) (u v : List ℕ) →
+    Walks moves steps u v → Joined moves u v
+unfolding Chain Walks
+walk-joined moves [] u v h = ([], h)
+walk-joined moves (step ∷ steps) u v h =
+    let rest = walk-joined moves steps h.0 v h.2 in
+    (h.0 ∷ rest.0, (moved-apart moves step u h.0 h.1, rest.1))
+
+-- a chain of tables is walked by as many signed numbers
+pub chain-walk : (moves : List (List ℤ)) (u : List ℕ) (tables : List (List ℕ)) (v : List ℕ) →
+    Chain moves u tables v →
+    (steps : List ℤ) × (length steps ≡ length tables) × Walks moves steps u v
+unfolding Chain Walks
+chain-walk moves u [] v h = ([], refl, h)
+chain-walk moves u (next ∷ tables) v h =
+    let one = apart-moved moves u next h.0 in
+    let rest = chain-walk moves next tables v h.1 in
+    (one.0 ∷ rest.0, ap suc rest.1, (next, one.1, rest.2))

@@ -1,20 +1,19 @@
 -- Lines that are written number by number, and lists of lines.
-use Rattle.std.proofs.Common.{Err, List, Ok, OnOk, Result, [], ap, append_assoc, append-nil, arith, codes, length, map, refl, sym, ℕ, ℤ, ◌++◌, ◌+◌, ◌∙◌, ◌∷◌, ◌≡◌, ◌≤◌}
-use Rattle.std.specs.Fmt.{decimal, signed_decimal}
-use Rattle.std.proofs.lemmas.Grind.{flat_map-append}
+use Rattle.std.proofs.Common.{Err, List, Ok, OnOk, Result, [], ap, append_assoc, arith, codes, length, map, refl, sym, ℕ, ℤ, ◌++◌, ◌+◌, ◌∙◌, ◌∷◌, ◌≡◌, ◌≤◌}
 use Rattle.std.proofs.lemmas.List.{length-map}
-use Rattle.std.proofs.lemmas.List.FromFn.{map-range_with_len_more}
 use Rattle.std.proofs.lemmas.Simd.{map-map}
-use Rattle.std.specs.List.{flat_map, join_with_byte, range_with_len}
+use Rattle.std.specs.Fmt.{decimal, signed_decimal}
+use Rattle.std.specs.List.{flat_map, join_with_byte}
 use Rattle.mb_certificate.specs.Certificate.{Certificate, Join, Path, Start}
 use Rattle.mb_certificate.specs.CertificateText.{order_name}
 use Rattle.mb_certificate.specs.Sides.{sides}
 use Rattle.mb_certificate.specs.Written.{join_items, matrix_text, move_items, path_items, rule_items, rules_text, section_text, start_items, text_of, trace_items}
 use Rattle.mb_certificate.specs.declared.parts.Pair.{Pair}
-use Rattle.mb_matrix.specs.Matrix.{Design, row_of}
+use Rattle.mb_matrix.specs.Matrix.{Design}
 use Rattle.mb_order.specs.Rewriting.{Rule}
 use Rattle.mb_order.specs.declared.order.Order.{Order}
 use Rattle.mb_text.proofs.JoinSteps.{joined, line_added}
+use Rattle.mb_text.proofs.SaidLines.{end_line}
 use Rattle.mb_text.specs.Lines.{line}
 
 -- items that are joined, and more of them
@@ -148,18 +147,6 @@ rules_added before o1 o2 pairs e1 e2 =
     ∙ ap (λ list. before ++ (line (codes "rules" ∷ decimal (length (map sides pairs)) ∷ [])
     ++ flat_map line list)) (sym (map-map rule_items sides pairs))
 
--- two texts behind a text
-pub two_added : (before o1 o2 a b : List ℕ) → o1 ≡ before ++ a → o2 ≡ o1 ++ b →
-    o2 ≡ before ++ (a ++ b)
-two_added before o1 o2 a b e1 e2 = e2 ∙ ap (λ o. o ++ b) e1 ∙ append_assoc before a b
-
--- three texts behind a text
-pub three_added : (before o1 o2 o3 a b c : List ℕ) → o1 ≡ before ++ a → o2 ≡ o1 ++ b →
-    o3 ≡ o2 ++ c → o3 ≡ before ++ (a ++ (b ++ c))
-three_added before o1 o2 o3 a b c e1 e2 e3 =
-    two_added before o2 o3 (a ++ b) c (two_added before o1 o2 a b e1 e2) e3
-    ∙ ap (λ t. before ++ t) (append_assoc a b c)
-
 -- the line that names the format
 pub version_line : codes "certificate 1\n" ≡ line (codes "certificate" ∷ codes "1" ∷ [])
 unfolding line
@@ -174,11 +161,6 @@ lex_line = refl
 pub grevlex_line : codes "order grevlex\n" ≡ line (codes "order" ∷ codes "grevlex" ∷ [])
 unfolding line
 grevlex_line = refl
-
--- the last line
-pub end_line : codes "end\n" ≡ line (codes "end" ∷ [])
-unfolding line
-end_line = refl
 
 -- texts in their groups, one after the other
 in_groups : (v m o mo r s j p e : List ℕ) →
@@ -213,24 +195,6 @@ all_written c out o1 o2 o3 o4 o5 e e1 e2 e3 e4 e5 =
     (section_text (codes "starts") start_items c.starts)
     (section_text (codes "joins") join_items c.joins)
     (section_text (codes "paths") path_items c.paths) (line (codes "end" ∷ []))
-
--- a row of a matrix is written behind those before it
-pub row_written : (matrix : Design) (before a b row : List ℕ) (i : ℕ) →
-    b ≡ a ++ line (map decimal row) →
-    a ≡ before ++ flat_map line (map (λ i. map decimal (row_of matrix i)) (range_with_len 0 i)) →
-    row ≡ row_of matrix i →
-    b ≡ before
-    ++ flat_map line (map (λ i. map decimal (row_of matrix i)) (range_with_len 0 (i + 1)))
-row_written matrix before a b row i eb ea er =
-    let items : ℕ → List (List ℕ) = λ i. map decimal (row_of matrix i) in
-    let so_far = flat_map line (map items (range_with_len 0 i)) in
-    eb ∙ ap (λ t. t ++ line (map decimal row)) ea
-    ∙ ap (λ row. (before ++ so_far) ++ line (map decimal row)) er
-    ∙ append_assoc before so_far (line (items i))
-    ∙ ap (λ text. before ++ text)
-    (sym (ap (flat_map line) (map-range_with_len_more items 0 i i (omega arith))
-    ∙ flat_map-append line (map items (range_with_len 0 i)) (items i ∷ [])
-    ∙ ap (λ text. so_far ++ text) (append-nil (line (items i)))))
 
 -- what follows where all goes well
 pub on_ok : {T F A B : Type 0} (r : Result T F) → OnOk r A → (A → B) → OnOk r B

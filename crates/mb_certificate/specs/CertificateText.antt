@@ -1,14 +1,13 @@
 -- The certificate that a text is, or its first wrong line, and the text of a certificate.
 use Rattle.std.specs.List.{list_all}
-use Rattle.std.specs.Prelude.{Bool, Err, List, None, Ok, Option, Result, Some, codes, if◌then◌else◌, int_le, length, pos, zero, ℕ, ℤ, ◌&&◌, ◌+◌, ◌-◌, ◌^◌}
+use Rattle.std.specs.Prelude.{Err, List, None, Ok, Option, Result, Some, codes, if◌then◌else◌, length, pos, zero, ℕ, ℤ, ◌+◌, ◌-◌, ◌^◌}
 use Rattle.std.specs.Str.{bytes_eq}
 use Rattle.mb_certificate.specs.Certificate.{Certificate, Join, Path, Start}
-use Rattle.mb_certificate.specs.Reading.{ItemsLeft, LinesLeft, line_ends, lines_of, number_within, one, says, text_ends, times, word}
+use Rattle.mb_certificate.specs.Reading.{ItemsLeft, LinesLeft, line_ends, lines_of, one, says, text_ends, times, word}
 use Rattle.mb_certificate.specs.declared.fault.ReadFault.{ReadFault}
 use Rattle.mb_certificate.specs.declared.fault.ReadFault.TheVariants.{OutOfMemory, Text}
 use Rattle.mb_matrix.specs.Faults.{matrix_of}
-use Rattle.mb_matrix.specs.Limits.{largest_entry}
-use Rattle.mb_matrix.specs.Matrix.{Design}
+use Rattle.mb_matrix.specs.Matrix.{Design, is_design_entry}
 use Rattle.mb_order.specs.Limits.{largest_exponent}
 use Rattle.mb_order.specs.Rewriting.{Rule}
 use Rattle.mb_order.specs.declared.order.Order.TheVariants.{Grevlex, Lex}
@@ -16,7 +15,8 @@ use Rattle.mb_order.specs.declared.order.Order.{Order}
 use Rattle.mb_tables.specs.Answers.{◌>>=◌}
 use Rattle.mb_tables.specs.Limits.{most_cells, most_moves}
 use Rattle.mb_text.specs.Lines.{line}
-use Rattle.mb_text.specs.Plain.{at_most, plain_of, plain_signed_of, size_at_most}
+use Rattle.mb_text.specs.Plain.{at_most, number_within, plain_of, plain_signed_of, size_at_most}
+use Rattle.mb_text.specs.Faults.{or_line}
 
 -- the number of a rule
 abbrev pub rule_number : List ℕ → Option ℕ
@@ -33,10 +33,6 @@ exponent item = at_most largest_exponent (plain_of item)
 -- an entry of a move
 abbrev pub entry : List ℕ → Option ℤ
 entry item = size_at_most (2 ^ 31 - 1) (plain_signed_of item)
-
--- whether a number is an entry of a design matrix: 0 to 1,000
-abbrev pub is_design_entry : ℤ → Bool
-is_design_entry entry = int_le (pos 0) entry && int_le entry (pos largest_entry)
 
 -- a number that isn't 0
 abbrev pub unless_zero : Option ℤ → Option ℤ
@@ -153,11 +149,6 @@ abbrev pub section : {A : Type 0} → List ℕ → ℕ → ℕ → (ItemsLeft �
 section name lowest highest read left =
     says (counted name lowest highest) left >>= λ count.
     times (says read) count.0 count.1
-
--- what is refused as a whole is wrong at this line
-abbrev pub or_line : {A F : Type 0} → ℕ → Result A F → Result A ℕ
-or_line number (Ok x) = Ok x
-or_line number (Err fault) = Err number
 
 -- a matrix. One whose lines are right, and which is refused as a whole, is wrong at its last row
 unfoldable pub matrix_in : LinesLeft → Result (Design × LinesLeft) ℕ

@@ -99,7 +99,8 @@ added [] [] = Some []
 added [] (z ∷ move) = None
 added (x ∷ u) [] = None
 added (x ∷ u) (z ∷ move) =
-    option_and_then (λ y. option_and_then (λ v. Some (y ∷ v)) (added u move)) (count_of (pos x +ℤ z))
+    option_and_then (λ y. option_and_then (λ v. Some (y ∷ v)) (added u move))
+    (count_of (pos x +ℤ z))
 
 -- the table that a signed number makes of another
 abbrev pub moved_by : List (List ℤ) → ℤ → List ℕ → Option (List ℕ)

@@ -1,12 +1,12 @@
 -- A text that is read line by line, and a line that is read item by item. Each step answers what
 -- it reads and what is left, or the number of the line that is wrong.
 use Rattle.std.specs.Option.{option_map}
-use Rattle.std.specs.Prelude.{Err, List, None, Ok, Option, Result, Some, [], if◌then◌else◌, nat_le, suc, zero, ℕ, ◌+◌, ◌∷◌}
+use Rattle.std.specs.Prelude.{Err, List, None, Ok, Option, Result, Some, [], if◌then◌else◌, suc, zero, ℕ, ◌+◌, ◌∷◌}
 use Rattle.std.specs.Str.{bytes_eq}
 use Rattle.mb_tables.specs.Answers.{◌>>=◌}
 use Rattle.mb_text.specs.Faults.{in_line}
 use Rattle.mb_text.specs.Lines.{items, lines}
-use Rattle.mb_text.specs.Plain.{at_most, plain_of}
+use Rattle.mb_text.specs.RecordLines.{ends}
 
 -- what is left of a text: its pieces between line ends, and the number of the first of them
 pub record LinesLeft : Type 0 where
@@ -61,14 +61,9 @@ none_left number (item ∷ others) = Err number
 abbrev pub line_ends : ItemsLeft → Result (Unit {0}) ℕ
 line_ends left = none_left left.number left.items
 
--- the text ends: its last piece is empty, after the line end before it
-abbrev pub no_piece_left : ℕ → List (List ℕ) → Result (Unit {0}) ℕ
-no_piece_left number ([] ∷ []) = Ok tt
-no_piece_left number _ = Err number
-
 -- where the text ends
 abbrev pub text_ends : LinesLeft → Result (Unit {0}) ℕ
-text_ends left = no_piece_left left.number left.pieces
+text_ends left = ends left.number left.pieces
 
 -- so many steps, one after the other
 unfoldable pub times : {A S : Type 0} → (S → Result (A × S) ℕ) → ℕ → S → Result (List A × S) ℕ
@@ -81,12 +76,3 @@ times step (suc count) left =
 -- this word
 abbrev pub word : List ℕ → List ℕ → Option (Unit {0})
 word wanted item = if bytes_eq item wanted then Some tt else None
-
--- a number from the lowest on
-abbrev pub at_least : ℕ → Option ℕ → Option ℕ
-at_least lowest None = None
-at_least lowest (Some n) = if nat_le lowest n then Some n else None
-
--- the number of these that an item is
-abbrev pub number_within : ℕ → ℕ → List ℕ → Option ℕ
-number_within lowest highest item = at_least lowest (at_most highest (plain_of item))

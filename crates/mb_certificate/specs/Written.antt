@@ -1,16 +1,13 @@
 -- The one text of a certificate.
 use Rattle.std.specs.Fmt.{decimal, signed_decimal}
-use Rattle.std.specs.List.{flat_map, range_with_len}
+use Rattle.std.specs.List.{flat_map}
 use Rattle.std.specs.Prelude.{List, [], codes, length, map, ℕ, ℤ, ◌++◌, ◌∷◌}
 use Rattle.mb_certificate.specs.Certificate.{Certificate, Join, Path, Start}
 use Rattle.mb_certificate.specs.CertificateText.{order_name}
-use Rattle.mb_matrix.specs.Matrix.{Design, row_of}
+use Rattle.mb_matrix.specs.Matrix.{Design}
 use Rattle.mb_order.specs.Rewriting.{Rule}
 use Rattle.mb_text.specs.Lines.{line}
-
--- the items of the lines of a matrix
-abbrev pub row_lines : Design → List (List (List ℕ))
-row_lines matrix = map (λ i. map decimal (row_of matrix i)) (range_with_len 0 matrix.rows)
+use Rattle.mb_moves.specs.Written.{row_lines}
 
 -- those of a move
 abbrev pub move_items : List ℤ → List (List ℕ)

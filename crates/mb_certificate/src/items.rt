@@ -1,15 +1,14 @@
 //! A line that is read item by item.
 
-ghost use Rattle.std.specs.Prelude.{◌≡◌, ◌∷◌, ◌-◌, ◌^◌, ◌≤◌, [], IfOk, MatchOption, Ok};
+ghost use Rattle.std.specs.Prelude.{◌≡◌, ◌∷◌, ◌-◌, ◌≤◌, [], IfOk, MatchOption, Ok};
 ghost use Rattle.mb_certificate.specs.CertificateText.{order_named};
 ghost use Rattle.mb_tables.specs.Answers.{Gives};
 ghost use Rattle.mb_text.specs.Lines.{items};
-ghost use Rattle.mb_text.specs.Plain.{at_most, plain_of};
 
 use crate::fault::ReadFault;
 use crate::item_number::ItemNumber;
 use mb_order::Order;
-use mb_text::{next_item, plain_number};
+use mb_text::{next_item, number_within};
 use std::marker::Model;
 
 /// What is left of a line, seen as its items and its number.
@@ -45,7 +44,8 @@ fn order_named(item: &[u8]) -> Option<Order>
 
 impl<'a> Items<'a> {
     ghost use Rattle.mb_certificate.specs.CertificateText.{read_cause};
-    ghost use Rattle.mb_certificate.specs.Reading.{line_ends, number_within, one, word};
+    ghost use Rattle.mb_certificate.specs.Reading.{line_ends, one, word};
+    ghost use Rattle.mb_text.specs.Plain.{number_within};
 
     /// A whole line, of this number.
     pub fn of(line: &'a [u8], number: u64) -> Items<'a>
@@ -120,9 +120,9 @@ impl<'a> Items<'a> {
     {
         match self.next() {
             None => Err(self.wrong()),
-            Some(item) => match plain_number(item, u128::from(highest)) {
-                Some(n) if u128::from(lowest) <= n => Ok(n as u64),
-                _ => Err(self.wrong()),
+            Some(item) => match number_within(item, lowest, highest) {
+                None => Err(self.wrong()),
+                Some(n) => Ok(n),
             },
         }
     }

@@ -1,12 +1,9 @@
 //! The lines of a certificate, each from its items.
 
-ghost use Rattle.std.specs.Bool.{OnTrue};
-ghost use Rattle.std.specs.List.{list_all};
-ghost use Rattle.std.specs.Prelude.{◌≡◌, ◌+◌, ◌≤◌, All, IfOk, length};
-ghost use Rattle.mb_certificate.specs.CertificateText.{all_of, counted, entry, exponent, is_design_entry, one_word, order_in, read_cause, row_in, rule_in, sizes_in, symbol_count, traces_in, two_words};
+ghost use Rattle.std.specs.Prelude.{◌≡◌, ◌+◌, ◌≤◌, IfOk, length};
+ghost use Rattle.mb_certificate.specs.CertificateText.{all_of, counted, entry, exponent, one_word, order_in, read_cause, row_in, rule_in, sizes_in, symbol_count, traces_in, two_words};
 ghost use Rattle.mb_certificate.specs.Reading.{one, times};
 ghost use Rattle.mb_certificate.specs.Sides.{PairSuits, sides};
-ghost use Rattle.mb_matrix.specs.Matrix.{IsDesign};
 ghost use Rattle.mb_order.specs.Weight.{Suits};
 ghost use Rattle.mb_tables.specs.Answers.{Gives};
 ghost use Rattle.mb_tables.specs.Limits.{most_cells};
@@ -15,7 +12,7 @@ use crate::fault::ReadFault;
 use crate::item_number::ItemNumber;
 use crate::items::Items;
 use crate::parts::Pair;
-use mb_matrix::{LARGEST_ENTRY, Matrix};
+use mb_matrix::{Matrix, are_design_entries};
 use mb_order::{Monomial, Order};
 use mb_tables::{MOST_CELLS, Move};
 use std::alloc::Global;
@@ -77,14 +74,6 @@ pub fn sizes(items: &mut Items) -> Result<(u32, u32), ReadFault>
     let cells = items.within(1, u64::from(MOST_CELLS))?;
     items.end()?;
     Ok((rows as u32, cells as u32))
-}
-
-/// Whether each number is an entry of a design matrix.
-fn are_design_entries(row: &[i32]) -> bool
-    ensures { result ≡ list_all is_design_entry row.now }
-{
-    row.iter()
-        .all(|entry| 0 <= *entry && *entry <= LARGEST_ENTRY)
 }
 
 /// A row of the matrix, of so many cells.

@@ -1,8 +1,8 @@
 //! The lines that a certificate begins with: its matrix and the order.
 
-ghost use Rattle.std.specs.List.{flat_map};
 ghost use Rattle.std.specs.Prelude.{◌≡◌, ◌≤◌, ◌*◌, IfOk, length};
-ghost use Rattle.mb_certificate.specs.CertificateText.{head_in, matrix_in, or_line, order_in, read_cause, row_in, sizes_in, two_words};
+ghost use Rattle.mb_certificate.specs.CertificateText.{head_in, matrix_in, order_in, read_cause, row_in, sizes_in, two_words};
+ghost use Rattle.mb_text.specs.Faults.{or_line};
 ghost use Rattle.mb_certificate.specs.Reading.{says, times};
 ghost use Rattle.mb_matrix.specs.Faults.{matrix_of};
 ghost use Rattle.mb_tables.specs.Answers.{Gives};

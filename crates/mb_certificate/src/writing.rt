@@ -1,11 +1,10 @@
 //! The text of a certificate.
 
-ghost use Rattle.std.specs.Fmt.{decimal};
 ghost use Rattle.std.specs.List.{flat_map};
-ghost use Rattle.std.specs.Prelude.{◌≡◌, ◌++◌, ◌∷◌, [], IfOk, OnOk, codes, length, map};
+ghost use Rattle.std.specs.Prelude.{◌≡◌, ◌++◌, ◌∷◌, [], IfOk, OnOk, codes, map};
 ghost use Rattle.mb_certificate.specs.CertificateText.{order_name};
 ghost use Rattle.mb_certificate.specs.Sides.{sides};
-ghost use Rattle.mb_certificate.specs.Written.{join_items, matrix_text, move_items, path_items, row_lines, rule_items, rules_text, section_text, start_items, text_of};
+ghost use Rattle.mb_certificate.specs.Written.{join_items, matrix_text, move_items, path_items, rule_items, rules_text, section_text, start_items, text_of};
 ghost use Rattle.mb_text.specs.Lines.{line};
 
 use crate::certificate::Certificate;
@@ -13,21 +12,11 @@ use crate::line_writing::{push_move, push_rule};
 use crate::part::Part;
 use crate::parts::{Join, Pair, Path, Start};
 use mb_matrix::Matrix;
+use mb_moves::push_rows;
 use mb_order::Order;
 use mb_tables::{Move, OutOfMemory};
-use mb_text::{push_line, push_text, push_word_line};
+use mb_text::{push_text, push_word_line};
 use std::alloc::Global;
-
-/// Puts the rows of a matrix at the end of a text.
-fn push_rows(out: &mut Vec<u8>, matrix: &Matrix) -> Result<(), OutOfMemory>
-    ensures { OnOk result
-        (out.new.items ≡ out.old.items ++ flat_map line (row_lines matrix.now)) }
-{
-    for row in 0..matrix.rows() {
-        push_line(out, matrix.row(row))?;
-    }
-    Ok(())
-}
 
 /// Puts the lines of a matrix at the end of a text.
 fn push_matrix(out: &mut Vec<u8>, matrix: &Matrix) -> Result<(), OutOfMemory>

@@ -5,23 +5,24 @@ use Rattle.std.proofs.lemmas.Option.{slice_get_past}
 use Rattle.std.specs.Bool.{OnFalse, OnTrue}
 use Rattle.std.specs.List.{filter}
 use Rattle.std.specs.Option.{option_and_then, option_or}
-use Rattle.mb_certificate.proofs.LineFaults.{is-light, left-none, sides-get}
+use Rattle.mb_certificate.proofs.LineFaults.{is-light, left-none}
 use Rattle.mb_certificate.specs.Certificate.{Certificate, Join}
 use Rattle.mb_certificate.specs.FirstFault.{ends_fault, faults_from, first_from, join_fault, join_lines, left_over, peak_fault, replay, rewritten, unless}
-use Rattle.mb_certificate.specs.declared.line_fault.Reason.TheVariants.{PairMissing, PairNotJoined, PeakTooHeavy}
 use Rattle.mb_certificate.specs.declared.line_fault.Reason.{Reason}
+use Rattle.mb_certificate.specs.declared.line_fault.Reason.TheVariants.{PairMissing, PairNotJoined, PeakTooHeavy}
 use Rattle.mb_checker.proofs.JudgedLines.{fault-at, faults-length, first-wrong, none-wrong, right-more, right-none, wrong}
 use Rattle.mb_checker.proofs.PairTurns.{pair-turn, until-all, until-more, until-none, until-row, with}
 use Rattle.mb_checker.proofs.Turns.{counts, passes}
 use Rattle.mb_checker.specs.loops.Joined.{AreMet, pairs_until, share}
 use Rattle.mb_matrix.specs.Matrix.{Design}
-use Rattle.mb_order.specs.Monomial.{Exponents, Monomial}
+use Rattle.mb_order.proofs.PeakLaws.{sides-get}
+use Rattle.mb_order.specs.Monomial.{Monomial}
 use Rattle.mb_order.specs.Peak.{peak, shared_pairs, sides_of}
 use Rattle.mb_order.specs.Rewriting.{Rule, made}
-use Rattle.mb_order.specs.Weight.{IsLight, Suits}
+use Rattle.mb_order.specs.Weight.{IsLight}
 use Rattle.mb_tables.proofs.ListLaws.{get-last, get-more, place-within, some_at}
-use Rattle.mb_tables.proofs.VectorLaws.{at-greater, length-greater, within-yes}
-use Rattle.mb_tables.specs.Vectors.{greater, within}
+use Rattle.mb_tables.proofs.VectorLaws.{at-greater, within-yes}
+use Rattle.mb_tables.specs.Vectors.{within}
 
 -- what the rule of a number makes of a monomial that its left side divides
 pub divisor-rewritten : (rules : List Rule) (k : ℕ) (m : Monomial) → k < length rules →
@@ -45,15 +46,6 @@ pub step-made_at : (rules : List Rule) (k : ℕ) (m top p q : Monomial) (b : Boo
     rewritten rules k top ≡ Some q → p ≡ q
 step-made_at rules k m top p q b e f g h =
     step-made rules k m p q b f g (ap (rewritten rules k) e ∙ h)
-
--- the least common multiple of two monomials of the matrix is one
-pub peak-suits : (matrix : Design) (x y m : Exponents) → Suits matrix x → Suits matrix y →
-    m.margins ≡ x.margins → m.list ≡ greater x.list y.list → Suits matrix m
-peak-suits matrix x y m s t e f = record {
-  margins = e ∙ s.margins;
-  symbols = ap length f ∙ length-greater x.list y.list
-      ∙ (let a = s.symbols in let b = t.symbols in omega arith);
-}
 
 -- both left sides divide their least common multiple
 pub low-divides : (low high : Rule) → within low.0 (peak low high) ≡ true

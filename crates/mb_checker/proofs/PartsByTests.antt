@@ -1,12 +1,12 @@
 -- Parts that are written out have the shapes and ranges of a certificate's text where tests of
 -- them pass, and these compute.
-use Rattle.std.proofs.Common.{All, Bool, List, ap, arith, false, length, nat_eq, nat_le, nat_lt, negsuc, not, pos, refl, slice_index_or, suc, sym, true, unsigned_abs, ℕ, ℤ, ◌&&◌, ◌+◌, ◌<◌, ◌≡◌, ◌≤◌, ◌^◌}
+use Rattle.std.proofs.Common.{All, Bool, List, ap, arith, length, nat_eq, nat_le, nat_lt, negsuc, not, pos, slice_index_or, suc, true, unsigned_abs, ℕ, ℤ, ◌&&◌, ◌+◌, ◌<◌, ◌≡◌, ◌≤◌, ◌^◌}
+use Rattle.std.proofs.lemmas.Bool.{and_parts, leb-true, not-true}
 use Rattle.std.proofs.lemmas.Bool.Decides.{Decides-eqb, nat_tests}
 use Rattle.std.proofs.lemmas.Int.{ints}
 use Rattle.std.proofs.lemmas.List.Elements.{recursion_from_All}
 use Rattle.std.proofs.lemmas.List.Sums.{AllPass-from_list_all}
 use Rattle.std.specs.List.{list_all}
-use Rattle.mb_certificate.proofs.Reasons.{both-true}
 use Rattle.mb_certificate.specs.Certificate.{AreNumbers, AreParts, AreSides, AreTraces, Certificate, IsJoin, IsPath, IsSide, IsSigned, IsStart, Join, Path, Start}
 use Rattle.mb_matrix.specs.Fiber.{IsColumn}
 use Rattle.mb_matrix.specs.Limits.{largest_entry}
@@ -27,10 +27,6 @@ all-by p P each xs e k d l = each (slice_index_or xs k d) (AllPass-from_list_all
 below : (n bound : ℕ) → nat_lt n bound ≡ true → n < bound
 below n bound e = grind (arith, nat_tests)
 
--- a number that is told to be at most another
-at_most : (n bound : ℕ) → nat_le n bound ≡ true → n ≤ bound
-at_most n bound e = grind (arith, nat_tests)
-
 -- whether a list is a column of a design matrix
 abbrev is_column : ℕ → List ℕ → Bool
 is_column d column =
@@ -44,33 +40,28 @@ is_design matrix =
     && (nat_le 1 (length matrix.columns) && nat_le (length matrix.columns) most_cells))
     && list_all (is_column matrix.rows) matrix.columns
 
--- a test that fails where its negation passes
-not-passes : (t : Bool) → not t ≡ true → t ≡ false
-not-passes true e = sym e
-not-passes false e = refl
-
 -- a list that passes is a column
 column : (d : ℕ) (c : List ℕ) → is_column d c ≡ true →
     IsColumn d c × All (λ entry. entry ≤ largest_entry) c
 column d c e =
-    let a = both-true _ _ e in
-    let b = both-true _ _ a.0 in (
-      record { high = (Decides-eqb (length c) d).0 b.0; not_zero = not-passes (all_zero c) b.1 },
+    let a = and_parts _ _ e in
+    let b = and_parts _ _ a.0 in (
+      record { high = (Decides-eqb (length c) d).0 b.0; not_zero = not-true (all_zero c) b.1 },
       all-by (λ entry. nat_le entry largest_entry) (λ entry. entry ≤ largest_entry)
-          (λ entry. at_most entry largest_entry) c a.1,
+          (λ entry. leb-true entry largest_entry) c a.1,
     )
 
 -- a matrix that passes is a design matrix
 design : (matrix : Design) → is_design matrix ≡ true → IsDesign matrix
 design matrix e =
-    let a = both-true _ _ e in
-    let b = both-true _ _ a.0 in
-    let rows = both-true _ _ b.0 in
-    let cells = both-true _ _ b.1 in record {
-      some_rows = at_most 1 matrix.rows rows.0;
-      few_rows = at_most matrix.rows most_cells rows.1;
-      some_cells = at_most 1 (length matrix.columns) cells.0;
-      few_cells = at_most (length matrix.columns) most_cells cells.1;
+    let a = and_parts _ _ e in
+    let b = and_parts _ _ a.0 in
+    let rows = and_parts _ _ b.0 in
+    let cells = and_parts _ _ b.1 in record {
+      some_rows = leb-true 1 matrix.rows rows.0;
+      few_rows = leb-true matrix.rows most_cells rows.1;
+      some_cells = leb-true 1 (length matrix.columns) cells.0;
+      few_cells = leb-true (length matrix.columns) most_cells cells.1;
       each = recursion_from_All (IsColumn matrix.rows) matrix.columns
           (all-by (is_column matrix.rows) (IsColumn matrix.rows)
           (λ c f. (column matrix.rows c f).0) matrix.columns a.1);
@@ -104,11 +95,11 @@ are_sides symbols rule = is_side symbols rule.0 && is_side symbols rule.1
 side : (matrix : Design) (m : Monomial) →
     is_side (matrix.rows + length matrix.columns) m ≡ true → IsSide matrix m
 side matrix m e =
-    let a = both-true _ _ e in record {
+    let a = and_parts _ _ e in record {
       symbols = (Decides-eqb (length m) (matrix.rows + length matrix.columns)).0 a.0;
       small = all-by (λ exponent. nat_le exponent largest_exponent)
           (λ exponent. exponent ≤ largest_exponent)
-          (λ exponent. at_most exponent largest_exponent) m a.1;
+          (λ exponent. leb-true exponent largest_exponent) m a.1;
     }
 
 -- whether a list of rule numbers is one, and short
@@ -119,9 +110,9 @@ is_trace trace = list_all (λ k. nat_lt k (2 ^ 32)) trace && nat_lt (length trac
 traces : (first second : List ℕ) → (is_trace first && is_trace second) ≡ true →
     AreTraces first second
 traces first second e =
-    let a = both-true _ _ e in
-    let b = both-true _ _ a.0 in
-    let c = both-true _ _ a.1 in
+    let a = and_parts _ _ e in
+    let b = and_parts _ _ a.0 in
+    let c = and_parts _ _ a.1 in
     let numbers : (trace : List ℕ) → list_all (λ k. nat_lt k (2 ^ 32)) trace ≡ true →
     AreNumbers trace =
     all-by (λ k. nat_lt k (2 ^ 32)) (λ k. k < 2 ^ 32) (λ k. below k (2 ^ 32)) in record {
@@ -140,8 +131,8 @@ is_join join =
 -- one that passes is
 join-of : (join : Join) → is_join join ≡ true → IsJoin join
 join-of join e =
-    let a = both-true _ _ e in
-    let b = both-true _ _ a.0 in record {
+    let a = and_parts _ _ e in
+    let b = and_parts _ _ a.0 in record {
       low_fits = below join.low (2 ^ 32) b.0;
       high_fits = below join.high (2 ^ 32) b.1;
       traces = traces join.low_steps join.high_steps a.1;
@@ -154,8 +145,8 @@ is_signed z = nat_le 1 (unsigned_abs z) && nat_lt (unsigned_abs z) (2 ^ 32)
 -- one that passes is
 signed : (z : ℤ) → is_signed z ≡ true → IsSigned z
 signed z e =
-    let a = both-true _ _ e in
-    let l = at_most 1 (unsigned_abs z) a.0 in record {
+    let a = and_parts _ _ e in
+    let l = leb-true 1 (unsigned_abs z) a.0 in record {
       some = λ f. (let g : unsigned_abs z ≡ 0 = ap unsigned_abs f in omega arith);
       fits = below (unsigned_abs z) (2 ^ 32) a.1;
     }
@@ -169,8 +160,8 @@ is_path path =
 -- one that passes is
 path-of : (path : Path) → is_path path ≡ true → IsPath path
 path-of path e =
-    let a = both-true _ _ e in
-    let b = both-true _ _ a.1 in record {
+    let a = and_parts _ _ e in
+    let b = and_parts _ _ a.1 in record {
       rule_fits = below path.rule (2 ^ 32) a.0;
       signed = all-by is_signed IsSigned signed path.steps b.0;
       short = below (length path.steps) (2 ^ 64) b.1;
@@ -192,14 +183,14 @@ parts-by c matrix moves rules starts joins paths each_cell few_moves few_rules f
         positive = sound.some_cells;
         narrow = sound.few_cells;
         each = all-by (is_row width) (λ row. length row ≡ width)
-            (λ row e. (Decides-eqb (length row) width).0 (both-true _ _ e).0) c.moves moves;
+            (λ row e. (Decides-eqb (length row) width).0 (and_parts _ _ e).0) c.moves moves;
         some = omega arith;
         few = few_moves;
         entries = all-by (is_row width) (All IsEntry)
-            (λ row e. all-by is_entry IsEntry entry row (both-true _ _ e).1) c.moves moves;
+            (λ row e. all-by is_entry IsEntry entry row (and_parts _ _ e).1) c.moves moves;
       };
       rules = all-by (are_sides (c.matrix.rows + width)) (AreSides c.matrix)
-          (λ rule e. let a = both-true _ _ e in
+          (λ rule e. let a = and_parts _ _ e in
           record { left = side c.matrix rule.0 a.0; right = side c.matrix rule.1 a.1 })
           c.rules rules;
       few_rules = few_rules;

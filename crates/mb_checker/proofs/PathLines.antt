@@ -10,14 +10,15 @@ use Rattle.mb_certificate.specs.Certificate.{AreParts, AreSides, Certificate, Pa
 use Rattle.mb_certificate.specs.FirstFault.{faults_from, first_from, left_over, path_fault, path_lines, steps_fault, unless}
 use Rattle.mb_certificate.specs.Sides.{PairSuits, sides}
 use Rattle.mb_certificate.specs.Valid.{free_rules, is_free}
-use Rattle.mb_certificate.specs.declared.line_fault.Reason.TheVariants.{PathMissing}
 use Rattle.mb_certificate.specs.declared.line_fault.Reason.{Reason}
+use Rattle.mb_certificate.specs.declared.line_fault.Reason.TheVariants.{PathMissing}
 use Rattle.mb_certificate.specs.declared.parts.Pair.{Pair}
 use Rattle.mb_checker.proofs.JudgedLines.{fault-at, faults-length, first-wrong, none-wrong, right-more, right-none, wrong}
 use Rattle.mb_checker.proofs.TableCells.{margins-small}
-use Rattle.mb_checker.proofs.Turns.{counts, passes, range-front, range-more, turn}
+use Rattle.mb_checker.proofs.Turns.{counts, passes, range-front, turn}
 use Rattle.mb_checker.specs.loops.Taken.{ArePassed}
 use Rattle.mb_checker.specs.loops.Walked.{HasSmallMargins}
+use Rattle.mb_matrix.proofs.CellLists.{range-next}
 use Rattle.mb_order.specs.Limits.{largest_exponent}
 use Rattle.mb_order.specs.Peak.{left_of, right_of}
 use Rattle.mb_tables.proofs.ListLaws.{get-last, get-more, place-within, some_at}
@@ -114,16 +115,10 @@ module _ (c : Certificate) where
     few = few;
   }
 
-  -- the rules before the next one
-  before-more : (k : ℕ) → range_with_len 0 (k + 1) ≡ range_with_len 0 k ++ (k ∷ [])
-  before-more k =
-      let e : 0 + k ≡ k = omega arith in
-      range-more 0 k ∙ ap (λ n. range_with_len 0 k ++ (n ∷ [])) e
-
   -- a rule with symbols of margins is passed
   pub passed-over : (k next : ℕ) → ArePassed c k next → test k ≡ false → ArePassed c (k + 1) next
   passed-over k next are e = record {
-    place = are.place ∙ sym (ap (λ l. length (filter test l)) (before-more k)
+    place = are.place ∙ sym (ap (λ l. length (filter test l)) (range-next k)
         ∙ passes test (range_with_len 0 k) k e);
     right = are.right;
     within = are.within;
@@ -136,7 +131,7 @@ module _ (c : Certificate) where
       ArePassed c (k + 1) (next + 1)
   passed-counted k next are e f l = record {
     place = ap (λ n. n + 1) are.place
-        ∙ sym (ap (λ l. length (filter test l)) (before-more k)
+        ∙ sym (ap (λ l. length (filter test l)) (range-next k)
         ∙ counts test (range_with_len 0 k) k e);
     right = right-more (path_lines c) next are.right f;
     within = omega arith;
@@ -149,7 +144,7 @@ module _ (c : Certificate) where
   passed-turn k next are l e =
       let r = range-front (length c.rules) (k + 1) (omega arith) in
       let all : range_with_len 0 (length c.rules) ≡ range_with_len 0 k ++ (k ∷ r.0) =
-      r.1 ∙ ap (λ l. l ++ r.0) (before-more k) ∙ append_assoc (range_with_len 0 k) (k ∷ []) r.0 in
+      r.1 ∙ ap (λ l. l ++ r.0) (range-next k) ∙ append_assoc (range_with_len 0 k) (k ∷ []) r.0 in
       ap (slice_get free) are.place
       ∙ ap (λ l. slice_get (filter test l) (length (filter test (range_with_len 0 k)))) all
       ∙ turn test (range_with_len 0 k) k r.0 e

@@ -1,6 +1,7 @@
 -- Steps by signed numbers.
 use Rattle.std.proofs.Common.{All, Bool, List, None, Option, Some, ap, arith, drop, false, length, nat_le, negsuc, pos, refl, slice_get, slice_index_or, subst, suc, sym, true, zero, ℕ, ℤ, ◌&&◌, ◌+◌, ◌<◌, ◌∙◌, ◌≡◌, ◌≤◌}
 use Rattle.std.proofs.Math.Seq.{drop-cons}
+use Rattle.std.proofs.lemmas.Bool.{and_parts}
 use Rattle.std.proofs.lemmas.Bool.Decides.{nat_tests}
 use Rattle.std.proofs.lemmas.List.{drop_all}
 use Rattle.std.specs.Bool.{OnFalse, OnTrue}
@@ -8,7 +9,6 @@ use Rattle.std.specs.Int.RustNames.{unsigned_abs}
 use Rattle.std.specs.List.{list_all}
 use Rattle.std.specs.Option.{option_and_then}
 use Rattle.mb_certificate.proofs.LineFaults.{all-at}
-use Rattle.mb_certificate.proofs.Reasons.{both-true}
 use Rattle.mb_certificate.proofs.Walking.{MovesBy-moved, moved-MovesBy}
 use Rattle.mb_certificate.specs.FirstFault.{moved_by, names_move, walk}
 use Rattle.mb_certificate.specs.Valid.{AreMoves, MovesBy}
@@ -16,11 +16,11 @@ use Rattle.mb_checker.specs.loops.Walked.{HasSmallMargins, sign_of}
 use Rattle.mb_matrix.proofs.CountBounds.{counts_below}
 use Rattle.mb_matrix.proofs.MovedMargins.{kept_by_move}
 use Rattle.mb_matrix.specs.Matrix.{Design, IsDesign, IsMove, margins_of}
-use Rattle.mb_tables.proofs.CellSteps.{adds-length}
+use Rattle.mb_tables.proofs.OneStep.{moved-length}
 use Rattle.mb_tables.specs.Counts.{AreCounts}
 use Rattle.mb_tables.specs.Step.{Adds, Moved}
-use Rattle.mb_tables.specs.declared.sign.Sign.TheVariants.{Minus, Plus}
 use Rattle.mb_tables.specs.declared.sign.Sign.{Sign}
+use Rattle.mb_tables.specs.declared.sign.Sign.TheVariants.{Minus, Plus}
 
 module _ (moves : List (List ℤ)) (k : ℕ) (move : List ℤ) (here : slice_get moves k ≡ Some move)
     (u v : List ℕ) where
@@ -45,12 +45,6 @@ module _ (moves : List (List ℤ)) (k : ℕ) (move : List ℤ) (here : slice_get
       let f : n ≡ k = omega arith in (move, ap (slice_get moves) f ∙ here, h)
   signed-MovesBy (negsuc n) e h =
       let f : n ≡ k = omega arith in (move, ap (slice_get moves) f ∙ here, h)
-
--- a step by a move keeps the number of cells
-pub moved-length : (sign : Sign) (u : List ℕ) (move : List ℤ) (v : List ℕ) →
-    Moved sign u move v → length v ≡ length u
-moved-length Plus u move v h = sym (adds-length u move v h)
-moved-length Minus u move v h = adds-length v move u h
 
 -- a step by a move of the matrix keeps margins
 moved-margins : (matrix : Design) (sign : Sign) (u : List ℕ) (move : List ℤ) (v : List ℕ) →
@@ -116,7 +110,7 @@ pub passing-front : (test : ℤ → Bool) (steps : List ℤ) (k : ℕ) →
 passing-front test steps k e l =
     let n : k + 1 ≡ suc k = omega arith in
     let front = ap (list_all test) (sym (drop-cons steps k (pos 0) l)) ∙ e in
-    let r = both-true (test (slice_index_or steps k (pos 0))) (list_all test (drop (suc k) steps))
+    let r = and_parts (test (slice_index_or steps k (pos 0))) (list_all test (drop (suc k) steps))
     front in
     (r.0, ap (λ i. list_all test (drop i steps)) n ∙ r.1)
 
@@ -179,7 +173,7 @@ pub named-number : (moves : List (List ℤ)) (step : ℤ) → names_move moves s
 named-number moves step e =
     let a = nat_le 1 (unsigned_abs step) in
     let b = nat_le (unsigned_abs step) (length moves) in
-    let r = both-true a b e in
+    let r = and_parts a b e in
     let f : a ≡ true = r.0 in
     let g : b ≡ true = r.1 in
     (grind (arith, nat_tests), grind (arith, nat_tests))

@@ -1,5 +1,5 @@
--- The samples are valid: their lines have no fault, which computes. So their parts meet the premises
--- of the laws, each with a fork and two tables of a fiber.
+-- The samples are valid: their lines have no fault, which computes. So their parts meet the
+-- premises of the laws, each with a fork and two tables of a fiber.
 use Rattle.std.proofs.Common.{None, [], ap, arith, refl, ◌∷◌, ◌≡◌}
 use Rattle.mb_certificate.proofs.NoFaults.{valid-none}
 use Rattle.mb_certificate.specs.Certificate.{AreParts}

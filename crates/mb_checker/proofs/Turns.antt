@@ -1,13 +1,7 @@
 -- What a test keeps of a list, element by element.
-use Rattle.std.proofs.Common.{Bool, List, Some, [], ap, append-nil, append_assoc, arith, cond, false, inl, inr, length, length-append, refl, slice_get, suc, sym, true, zero, ℕ, ◌++◌, ◌+◌, ◌∙◌, ◌∷◌, ◌≡◌, ◌≤◌, ◌⊎◌}
+use Rattle.std.proofs.Common.{Bool, List, Some, [], ap, append-nil, append_assoc, arith, cond, false, inl, inr, length, length-append, slice_get, suc, sym, true, zero, ℕ, ◌++◌, ◌+◌, ◌∙◌, ◌∷◌, ◌≡◌, ◌≤◌, ◌⊎◌}
 use Rattle.std.specs.List.{filter, range_with_len}
-use Rattle.mb_tables.proofs.ListLaws.{filter-append}
-
--- what stands between a front and a back
-get-middle : {X : Type 0} (xs : List X) (x : X) (ys : List X) →
-    slice_get (xs ++ (x ∷ ys)) (length xs) ≡ Some x
-get-middle [] x ys = refl
-get-middle (z ∷ xs) x ys = get-middle xs x ys
+use Rattle.mb_tables.proofs.ListLaws.{filter-append, get-middle}
 
 module _ {X : Type 0} (test : X → Bool) (before : List X) (x : X) where
   -- after those before it that are kept, an element that is kept takes its turn

@@ -2,57 +2,35 @@
 -- say that each pair of rules meets, its starts that each cell's two monomials do, and its paths
 -- that the moves join the two tables of each margin-free rule. The orders need no premise, and
 -- the moves have margins 0, so they are a Markov basis. The same for each law on the way.
-use Rattle.std.proofs.Common.{Bool, List, Some, [], ap, arith, drop, inl, inr, length, negsuc, pos, slice_get, subst, suc, sym, true, zero, ℕ, ℤ, ◌+◌, ◌∙◌, ◌∷◌, ◌≡◌}
+use Rattle.std.proofs.Common.{Bool, List, ap, arith, drop, length, subst, sym, true, ℕ, ◌+◌, ◌∙◌, ◌≡◌}
+use Rattle.std.proofs.lemmas.Bool.{and_from}
 use Rattle.std.specs.List.{range_with_len}
 use Rattle.mb_certificate.proofs.LineFaults.{all-at}
-use Rattle.mb_certificate.proofs.Reasons.{true-both}
+use Rattle.mb_certificate.proofs.Walking.{walk-joined}
 use Rattle.mb_certificate.specs.Certificate.{AreParts, Certificate, Path}
-use Rattle.mb_certificate.specs.Valid.{IsValid, MovesBy, PeakMeets, TracesMeet, Walks, is_free, pair_of}
+use Rattle.mb_certificate.specs.Valid.{IsValid, PeakMeets, TracesMeet, Walks, is_free, pair_of}
 use Rattle.mb_checker.specs.Premises.{PremisesHold}
 use Rattle.mb_matrix.specs.MarkovBasis.{IsMarkovBasis}
 use Rattle.mb_order.proofs.OrderLaws.{eliminates, is_order}
-use Rattle.mb_order.proofs.PeakLaws.{In-pairs, left-is}
+use Rattle.mb_order.proofs.PeakLaws.{In-pairs, left-is, sides-are}
 use Rattle.mb_order.proofs.WeightLaws.{symbols-fit}
 use Rattle.mb_order.specs.MarginFree.{margin_free}
 use Rattle.mb_order.specs.Monomial.{Monomial}
 use Rattle.mb_order.specs.Order.{monomial_cmp}
-use Rattle.mb_order.specs.Peak.{PairsMeet, left_in, left_of, pairs_below, right_in, right_of, sides_of}
+use Rattle.mb_order.specs.Peak.{PairsMeet, left_of, pairs_below, right_in, right_of, sides_of}
 use Rattle.mb_order.specs.Rewriting.{Meet, Rule}
 use Rattle.mb_order.specs.Weight.{symbols}
 use Rattle.mb_rules.proofs.ByMoves.{joined}
 use Rattle.mb_rules.proofs.LocalConfluence.{critical_pairs}
 use Rattle.mb_rules.specs.Elimination.{PathsJoin, StartsMeet}
 use Rattle.mb_tables.proofs.ListLaws.{In-filter, In-map_range, In-place, In-range, place-within, some_at}
-use Rattle.mb_tables.specs.Chain.{Chain, Joined}
 use Rattle.mb_tables.specs.Lists.{In}
-use Rattle.mb_tables.specs.Step.{OneApart}
 use Rattle.mb_tables.specs.Vectors.{shares}
 
 -- what traces lead to one monomial meets
 meet : (rules : List Rule) (first second : List ℕ) (a b : Monomial) →
     TracesMeet rules first a second b → Meet rules a b
 meet rules first second a b h = (h.0, (first, h.1), (second, h.2))
-
--- the sides of a rule, by its number
-sides-are : (rules : List Rule) (k : ℕ) (rule : Rule) → slice_get rules k ≡ Some rule →
-    sides_of rules k ≡ rule
-sides-are rules k rule e = ap (λ o. (left_in o, right_in o)) e
-
--- a signed number leads one step
-pub moved-apart : (moves : List (List ℤ)) (step : ℤ) (u v : List ℕ) → MovesBy moves step u v →
-    OneApart moves u v
-moved-apart moves (pos zero) u v h = absurd h
-moved-apart moves (pos (suc k)) u v h = (k, h.0, h.1, inl h.2)
-moved-apart moves (negsuc k) u v h = (k, h.0, h.1, inr h.2)
-
--- tables that signed numbers lead to each other are joined
-walk-joined : (moves : List (List ℤ)) (steps : List ℤ) (u v : List ℕ) →
-    Walks moves steps u v → Joined moves u v
-unfolding Walks Chain
-walk-joined moves [] u v h = ([], h)
-walk-joined moves (step ∷ steps) u v h =
-    let rest = walk-joined moves steps h.0 v h.2 in
-    (h.0 ∷ rest.0, (moved-apart moves step u h.0 h.1, rest.1))
 
 module _ (c : Certificate) (h : IsValid c) where
   -- by its joins, the sides of each pair of rules that share a symbol meet
@@ -84,7 +62,8 @@ module _ (c : Certificate) (h : IsValid c) where
   starts-meet : AreParts c → StartsMeet c.matrix.rows c.matrix.columns c.rules
   starts-meet parts j column e =
       let start = some_at c.starts j
-      (let p = place-within c.matrix.columns j column e in let q = parts.each_cell in omega arith) in
+      (let p = place-within c.matrix.columns j column e in let q =
+      parts.each_cell in omega arith) in
       meet c.rules (start.0).margin_steps (start.0).cell_steps _ _
       (h.starts j column start.0 e start.1)
 
@@ -95,7 +74,7 @@ module _ (c : Certificate) (h : IsValid c) where
       let sides = sides-are c.rules k rule e in
       let left : left_of c.rules k ≡ rule.0 = left-is c.rules k rule e in
       let right : right_of c.rules k ≡ rule.1 = ap right_in e in
-      let passes = true-both (margin_free d (left_of c.rules k)) (margin_free d (right_of c.rules k))
+      let passes = and_from (margin_free d (left_of c.rules k)) (margin_free d (right_of c.rules k))
       (ap (margin_free d) left ∙ free.0) (ap (margin_free d) right ∙ free.1) in
       let listed = In-filter (is_free d c.rules) k (range_with_len 0 (length c.rules))
       (In-range 0 (length c.rules) k (omega arith)

@@ -36,10 +36,10 @@ fn check_lines(alloc: Global, certificate: &Certificate) -> Result<(), Stop>
     check_paths(alloc, certificate, line)
 }
 
-/// Whether a certificate is valid, and its first wrong line where it isn't. The moves of a valid one
-/// are a Markov basis of its matrix (Diaconis and Sturmfels 1998). Each trace is replayed, and each
-/// path walked, in place: beside the certificate it takes the memory of a few monomials and one
-/// table.
+/// Whether a certificate is valid, and its first wrong line where it isn't. The moves of a valid
+/// one are a Markov basis of its matrix (Diaconis and Sturmfels 1998). Each trace is replayed, and
+/// each path walked, in place: beside the certificate it takes the memory of a few monomials and
+/// one table.
 pub fn check(alloc: Global, certificate: &Certificate) -> Result<Verdict, OutOfMemory>
     ensures joins { IfOk result (λ verdict. (verdict ≡ Joins) ↔ IsValid certificate.now) }
     ensures basis { IfOk result (λ verdict.

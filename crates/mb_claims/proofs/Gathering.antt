@@ -4,13 +4,13 @@ use Rattle.std.proofs.lemmas.Bool.{ne_eqb, not_from_false}
 use Rattle.std.specs.List.{sum_by}
 use Rattle.atomic_table.proofs.Lists.{at_set, set_else, set_here}
 use Rattle.atomic_table.specs.Table.{Joins}
-use Rattle.mb_claims.proofs.Occurrences.{AreDistinct-filter, occurrences-append}
+use Rattle.mb_claims.proofs.Occurrences.{AreDistinctKeys-filter, occurrences-append}
 use Rattle.mb_claims.proofs.RootSteps.{opened_there, root_or_pass, root_seat}
 use Rattle.mb_claims.proofs.SeatSums.{at_is, sum_by-put}
 use Rattle.mb_claims.proofs.ViewSteps.{AreKeys-set, AreNoted-set, AreSized-set}
 use Rattle.mb_claims.specs.ClaimRule.{AreCounted, AreNoted, AreOpened, AreSized, IsClaimed, Knows}
 use Rattle.mb_claims.specs.ClaimStep.{gathered_root, gathers}
-use Rattle.mb_claims.specs.Lists.{AreDistinct, occurrences}
+use Rattle.mb_claims.specs.Lists.{AreDistinctKeys, occurrences}
 use Rattle.mb_claims.specs.View.{keys_of}
 use Rattle.mb_claims.specs.declared.views.PassView.{PassView}
 use Rattle.mb_claims.specs.declared.views.RootView.{RootView}
@@ -88,8 +88,9 @@ module _ (sizes words : List ℕ) (views : List View) (rule : IsClaimed sizes wo
             (joined_cases third (OfRoot view) k);
         above = λ i. rule.numbered.above (subst (λ (r : RootView). In 0 r.opened) here.1
             (In-filter_only (λ n. not (eqb n pass.number)) 0 root.opened i));
-        distinct = AreDistinct-filter (λ n. not (eqb n pass.number)) root.opened
-            (subst (λ (r : RootView). AreDistinct r.opened) (sym here.1) rule.numbered.distinct);
+        distinct = AreDistinctKeys-filter (λ n. not (eqb n pass.number)) root.opened
+            (subst (λ (r : RootView). AreDistinctKeys r.opened) (sym here.1)
+            rule.numbered.distinct);
         open_pass = λ third p k. let t = joined_pass third p k in stays_open third p t.0 t.1;
         own = λ one two v w k l e.
             rule.numbered.own one two v w (joined_pass one v k).1 (joined_pass two w l).1 e;

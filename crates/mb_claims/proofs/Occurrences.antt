@@ -3,7 +3,7 @@ use Rattle.std.proofs.Common.{Bool, List, [], ap, arith, cond, eqb, false, get_o
 use Rattle.std.proofs.lemmas.Bool.{cases_eq, eq-eqb, ne_eqb}
 use Rattle.std.proofs.lemmas.List.Sums.{get_or-le-sum_by, sum_by-append, sum_by-cons, sum_by-set}
 use Rattle.std.specs.List.{filter}
-use Rattle.mb_claims.specs.Lists.{AreDistinct, occurrences}
+use Rattle.mb_claims.specs.Lists.{AreDistinctKeys, occurrences}
 use Rattle.mb_tables.proofs.ListLaws.{In-filter_only}
 use Rattle.mb_tables.specs.Lists.{In}
 
@@ -122,25 +122,25 @@ pub occurrences-at : (n i : ℕ) (xs : List ℕ) → i < length xs → get_or xs
 occurrences-at n i xs l e = In-occurs n xs (In-at n i xs l e)
 
 -- a filter keeps numbers distinct
-pub AreDistinct-filter : (p : ℕ → Bool) (xs : List ℕ) → AreDistinct xs →
-    AreDistinct (filter p xs)
-AreDistinct-filter p [] h = tt
-AreDistinct-filter p (y ∷ xs) h = by (p y) (AreDistinct-filter p xs h.1)
+pub AreDistinctKeys-filter : (p : ℕ → Bool) (xs : List ℕ) → AreDistinctKeys xs →
+    AreDistinctKeys (filter p xs)
+AreDistinctKeys-filter p [] h = tt
+AreDistinctKeys-filter p (y ∷ xs) h = by (p y) (AreDistinctKeys-filter p xs h.1)
   where
-    by : (t : Bool) → AreDistinct (filter p xs) →
-        AreDistinct (cond t (y ∷ filter p xs) (filter p xs))
+    by : (t : Bool) → AreDistinctKeys (filter p xs) →
+        AreDistinctKeys (cond t (y ∷ filter p xs) (filter p xs))
     by true k = ((λ i. h.0 (In-filter_only p y xs i)), k)
     by false k = k
 
 -- numbers that count at most once each are distinct
-pub AreDistinct-occurs : (xs : List ℕ) → ((n : ℕ) → In n xs → occurrences n xs ≤ 1) →
-    AreDistinct xs
+pub AreDistinctKeys-occurs : (xs : List ℕ) → ((n : ℕ) → In n xs → occurrences n xs ≤ 1) →
+    AreDistinctKeys xs
 unfolding In
-AreDistinct-occurs [] h = tt
-AreDistinct-occurs (x ∷ xs) h = (
+AreDistinctKeys-occurs [] h = tt
+AreDistinctKeys-occurs (x ∷ xs) h = (
   (λ i.
       let two = h x (inl refl) in
       let one : once_where x x ≡ 1 = once_where-same x x refl in
       omega (arith, occurrences-cons x x xs, one, In-occurs x xs i)),
-  AreDistinct-occurs xs (λ n i. let l = h n (inr i) in omega (arith, occurrences-cons n x xs)),
+  AreDistinctKeys-occurs xs (λ n i. let l = h n (inr i) in omega (arith, occurrences-cons n x xs)),
 )

@@ -8,7 +8,7 @@ use Rattle.std.proofs.lemmas.List.Sums.{sum_by-le, sum_by-take-le, sum_by_more}
 use Rattle.std.proofs.lemmas.Nat.{mod_below}
 use Rattle.atomic_table.specs.Seated.{TableId}
 use Rattle.mb_claims.specs.Probe.{probe, shard_of, start_of}
-use Rattle.mb_claims.specs.loops.Parts.{AreParts, AreSizes}
+use Rattle.mb_claims.specs.loops.Parts.{AreShardParts, AreSizes}
 
 -- a shard that has words is one of the shards
 pub shard_there : (sizes : List ℕ) (shard n : ℕ) → n < get_or sizes shard 0 → shard < length sizes
@@ -45,7 +45,7 @@ sum_fits sizes fit =
 
 -- all words of all shards, and so those up to the end of one, are at most 2 ^ 28
 pub home_ends : {table : TableId} {ruled sizes starts : List ℕ} →
-    AreParts table ruled sizes starts →
+    AreShardParts table ruled sizes starts →
     (shard start size : ℕ) → shard < length sizes →
     start ≡ get_or starts shard start → size ≡ get_or sizes shard size → start + size ≤ 2 ^ 28
 home_ends {sizes = sizes} {starts = starts} parts shard start size l s z =
@@ -71,7 +71,7 @@ turned first steps size at next here e =
 
 -- there is a word
 pub some_words : {table : TableId} {ruled sizes starts : List ℕ} →
-    AreParts table ruled sizes starts →
+    AreShardParts table ruled sizes starts →
     0 < table.words
 some_words {sizes = sizes} parts =
     let first = parts.fit.each 0 parts.fit.some in

@@ -6,7 +6,7 @@ use Rattle.std.specs.Prelude.{◌↔◌}
 use mathlib.Core.Option.{none, some}
 use Rattle.atomic_table.proofs.Lists.{set_again}
 use Rattle.atomic_table.specs.Table.{Allows, Me, keeps, step}
-use Rattle.mb_claims.proofs.Occurrences.{AreDistinct-occurs, In-occurring, In-occurs, occurrences-at, occurrences-le_one, place_of}
+use Rattle.mb_claims.proofs.Occurrences.{AreDistinctKeys-occurs, In-occurring, In-occurs, occurrences-at, occurrences-le_one, place_of}
 use Rattle.mb_claims.proofs.SeatSums.{sum_by-one}
 use Rattle.mb_claims.proofs.RootSteps.{root_seat}
 use Rattle.mb_claims.specs.ClaimRule.{AreStoredOnce, IsClaimed, Knows}
@@ -90,7 +90,7 @@ module _ (sizes words : List ℕ) (views : List View) (rule : IsClaimed sizes wo
 
   pub root_is_closed : IsClosed root
   root_is_closed = record {
-    once = AreDistinct-occurs root.gathered (λ n i.
+    once = AreDistinctKeys-occurs root.gathered (λ n i.
         let pos : n ≢ 0 = λ e.
         rule.counted.keys seat (OfRoot root) at (subst (λ k. In k root.gathered) e i) in
         let few = stored_once words rule.once n pos in omega (arith, gathered_often n pos));

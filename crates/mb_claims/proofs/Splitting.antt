@@ -10,7 +10,7 @@ use Rattle.mb_claims.proofs.SeatSums.{at_end, at_is, sum_by-put}
 use Rattle.mb_claims.proofs.ViewSteps.{pass_same}
 use Rattle.mb_claims.specs.ClaimRule.{AreCounted, AreNoted, AreOpened, AreSized, IsClaimed, Knows}
 use Rattle.mb_claims.specs.ClaimStep.{begins, fresh, opened_pass, opened_root, opens}
-use Rattle.mb_claims.specs.Lists.{AreDistinct, occurrences}
+use Rattle.mb_claims.specs.Lists.{AreDistinctKeys, occurrences}
 use Rattle.mb_claims.specs.View.{HasSizes, keys_of, notes_of}
 use Rattle.mb_claims.specs.declared.views.PassView.{PassView}
 use Rattle.mb_claims.specs.declared.views.RootView.{RootView}
@@ -94,7 +94,7 @@ module _ (sizes words : List ℕ) (views : List View) (rule : IsClaimed sizes wo
             i;
         distinct = (
           fresh-new root.opened,
-          subst (λ (r : RootView). AreDistinct r.opened) (sym here.1) rule.numbered.distinct,
+          subst (λ (r : RootView). AreDistinctKeys r.opened) (sym here.1) rule.numbered.distinct,
         );
         open_pass = λ other pass k. ⊎_elim
             (λ new. inl (ap (λ (p : PassView). p.number) (sym new.1)))

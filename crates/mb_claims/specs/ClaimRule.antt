@@ -4,7 +4,7 @@ use Rattle.std.specs.List.{sum_by}
 use Rattle.std.specs.Prelude.{List, length, sum, ℕ, ◌≡◌, ◌≢◌}
 use lib.ListN.{get_elem?}
 use mathlib.Core.Option.{some}
-use Rattle.mb_claims.specs.Lists.{AreDistinct, occurrences}
+use Rattle.mb_claims.specs.Lists.{AreDistinctKeys, occurrences}
 use Rattle.mb_claims.specs.Probe.{Holds, IsReached}
 use Rattle.mb_claims.specs.View.{HasSizes, keys_of, notes_of}
 use Rattle.mb_claims.specs.declared.views.Note.{Note}
@@ -55,7 +55,7 @@ pub record AreOpened (views : List View) : Type 0 where
   pub there : Knows views seat (OfRoot root)
   pub only : (other : ℕ) (view : RootView) → Knows views other (OfRoot view) → other ≡ seat
   pub above : In 0 root.opened → ⊥
-  pub distinct : AreDistinct root.opened
+  pub distinct : AreDistinctKeys root.opened
   pub open_pass :
       (other : ℕ) (pass : PassView) → Knows views other (OfPass pass) → In pass.number root.opened
   pub own :

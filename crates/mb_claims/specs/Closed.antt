@@ -1,6 +1,6 @@
 -- What a root knows where no pass is open.
 use Rattle.std.specs.Prelude.{[], slice_index, ◌+◌, ◌<◌, ◌≡◌, ◌≤◌}
-use Rattle.mb_claims.specs.Lists.{AreDistinct}
+use Rattle.mb_claims.specs.Lists.{AreDistinctKeys}
 use Rattle.mb_claims.specs.Probe.{shard_of, start_of}
 use Rattle.mb_claims.specs.declared.views.Note.{Note}
 use Rattle.mb_claims.specs.declared.views.RootView.{RootView}
@@ -16,7 +16,7 @@ pub record IsAtHome (root : RootView) (note : Note) : Type 0 where
 -- no key is gathered twice; each note is of a gathered key and of a word in the key's own shard; no
 -- key is noted at two places
 pub record IsClosed (root : RootView) : Type 0 where
-  pub once : AreDistinct root.gathered
+  pub once : AreDistinctKeys root.gathered
   pub keys : In 0 root.gathered → ⊥
   pub gathered : (note : Note) → In note root.notes → In note.key root.gathered
   pub home : (note : Note) → In note root.notes → IsAtHome root note

@@ -7,6 +7,6 @@ abbrev pub occurrences : ℕ → List ℕ → ℕ
 occurrences n list = count_by (λ m. m == n) list
 
 -- no number stands twice in the list
-abbrev pub AreDistinct : List ℕ → Type 0
-AreDistinct [] = Unit {0}
-AreDistinct (n ∷ list) = (In n list → ⊥) × AreDistinct list
+abbrev pub AreDistinctKeys : List ℕ → Type 0
+AreDistinctKeys [] = Unit {0}
+AreDistinctKeys (n ∷ list) = (In n list → ⊥) × AreDistinctKeys list

@@ -74,9 +74,9 @@ impl Shards {
         Claim::Full { shard: home.shard }
     }
 
-    /// Reads the word where the probe path of a key begins, and tells nothing: a claim of the key soon
-    /// after has no wait for the memory. Reads of many words are under way at once, while an exchange
-    /// waits for the one before it. It is a step of no pass, and any thread may make it.
+    /// Reads the word where the probe path of a key begins, and tells nothing: a claim of the key
+    /// soon after has no wait for the memory. Reads of many words are under way at once, while an
+    /// exchange waits for the one before it. It is a step of no pass, and any thread may make it.
     #[inline(always)]
     pub fn prefetch(&self, key: u64) {
         let home = self.home(key);
@@ -118,8 +118,8 @@ impl Shards {
     }
 }
 
-/// The number of shards that a walk begins with.
-const USUAL_SHARDS: u64 = 13;
+/// The number of shards for which the choice of a key's shard is a division by a constant.
+pub const USUAL_SHARDS: u32 = 13;
 
 /// The remainder and the quotient of a key by the number of shards. Where there is one shard two
 /// divisions are spared; where there are as many as usual the divisor is a constant, so that the
@@ -132,8 +132,8 @@ fn divided(key: u64, shards: u64) -> (u64, u64)
 {
     if shards == 1 {
         (0, key)
-    } else if shards == USUAL_SHARDS {
-        (key % USUAL_SHARDS, key / USUAL_SHARDS)
+    } else if shards == u64::from(USUAL_SHARDS) {
+        (key % u64::from(USUAL_SHARDS), key / u64::from(USUAL_SHARDS))
     } else {
         (key % shards, key / shards)
     }

@@ -15,8 +15,8 @@ mod shards;
 mod sizes;
 mod views;
 
-pub use claim::Claim;
+pub use claim::{Claim, USUAL_SHARDS};
 pub use laws::{a_key_is_won_once, a_won_key_is_new, each_run_keeps_the_rule, gathered_is_stored};
 pub use seats::{Pass, Root};
-pub use shards::{MOST_SHARDS, MOST_WORDS, Shards};
+pub use shards::{MOST_WORDS, Shards};
 pub use views::{Note, PassView, RootView};

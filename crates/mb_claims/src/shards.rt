@@ -31,11 +31,6 @@ use mb_tables::OutOfMemory;
 use std::alloc::Global;
 use std::marker::Model;
 
-/// The most shards of a set.
-pub const MOST_SHARDS: u32 = 64;
-
-const _: () = prove!(MOST_SHARDS == 64);
-
 /// The most words of a new shard, and of one that grows: a shard has at most twice as many.
 pub const MOST_WORDS: u32 = 2_097_152;
 
@@ -55,14 +50,15 @@ pub struct Shards {
 
 impl Model for Shards {
     ghost use Rattle.mb_claims.specs.Claims.{ShardWords};
-    ghost use Rattle.mb_claims.specs.loops.Parts.{AreParts};
+    ghost use Rattle.mb_claims.specs.loops.Parts.{AreShardParts};
 
     ghost Value = { ShardWords };
 
     ghost view = { λ s. record { table = s.table.shared.table_id; sizes = s.sizes.items } };
 
     ghost invariant = { λ s.
-        AreParts s.table.shared.table_id s.table.shared.key.items s.sizes.items s.starts.items };
+        AreShardParts s.table.shared.table_id s.table.shared.key.items s.sizes.items
+        s.starts.items };
 }
 
 impl Shards {

@@ -1,22 +1,22 @@
--- A run ends as is computed. A normal form is computed by its own trace, which is no longer than its
--- class has members; so each look adds what is computed, and the run goes on with the same rules.
+-- A run ends as is computed. A normal form is computed by its own trace, which is no longer than
+-- its class has members; so each look adds what is computed, and the run goes on with the same
+-- rules.
 use Rattle.std.proofs.Common.{Bool, List, None, Option, Some, [], ap, arith, cond, false, inl, inr, length, not, refl, slice_get, subst, suc, sym, true, zero, ℕ, ◌++◌, ◌+◌, ◌∙◌, ◌∷◌, ◌≡◌, ◌≤◌}
 use Rattle.std.specs.List.{find, position_or_len}
 use Rattle.std.specs.Option.{option_map, option_map_or}
 use Rattle.std.specs.Ordering.{ordering_reverse}
-use Rattle.std.specs.declared.cmp.Ordering.TheVariants.{Equal, Greater, Less}
 use Rattle.std.specs.declared.cmp.Ordering.{Ordering}
+use Rattle.std.specs.declared.cmp.Ordering.TheVariants.{Equal, Greater, Less}
 use Rattle.mb_certificate.proofs.LineFaults.{is-light, light-is}
 use Rattle.mb_certificate.specs.FirstFault.{is_light}
 use Rattle.mb_completion.proofs.FromClasses.{sides_alike}
-use Rattle.mb_completion.proofs.LookSteps.{sides-get}
 use Rattle.mb_completion.proofs.Looks.{fit, look_valid, ordered}
 use Rattle.mb_completion.proofs.Reducing.{leads-same}
 use Rattle.mb_completion.specs.Outcome.{at_pair, look_adds, lowered, lowered_by, normal_form, outcome_from, rule_between}
 use Rattle.mb_completion.specs.Run.{Adds, IsLook, Outcome, Runs, TooHeavy, Unfinished}
 use Rattle.mb_matrix.specs.Fiber.{AreColumns, fill, margins}
 use Rattle.mb_matrix.specs.Matrix.{Design, IsDesign}
-use Rattle.mb_order.proofs.PeakLaws.{old_places}
+use Rattle.mb_order.proofs.PeakLaws.{old_places, sides-get}
 use Rattle.mb_order.proofs.StepLaws.{step-makes}
 use Rattle.mb_order.specs.Monomial.{Monomial}
 use Rattle.mb_order.specs.Order.{IsOrder}

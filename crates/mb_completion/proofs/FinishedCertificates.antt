@@ -1,17 +1,16 @@
 -- The rules of a finished run make a valid certificate: its starts and joins list the traces by
 -- which the sides meet, and each path subtracts its rule's own move.
 use Rattle.std.proofs.Common.{List, Some, [], ap, arith, drop, inr, length, map, refl, slice_get, subst, suc, sym, true, zero, ℕ, ℤ, ◌+◌, ◌∙◌, ◌∷◌, ◌≡◌}
+use Rattle.std.proofs.lemmas.Bool.{and_from}
 use Rattle.std.proofs.lemmas.List.Elements.{filter_passes}
 use Rattle.std.proofs.lemmas.Option.{slice_get-map}
 use Rattle.std.specs.List.{range_with_len}
 use Rattle.std.specs.Option.{option_map}
 use Rattle.mb_certificate.proofs.LineFaults.{all-at, at-all}
-use Rattle.mb_certificate.proofs.Reasons.{true-both}
 use Rattle.mb_certificate.specs.Certificate.{Certificate, Join, Start}
 use Rattle.mb_certificate.specs.Valid.{AreJoins, AreStarts, IsValid, PeakMeets, TracesMeet, free_rules, is_free, of_cell, of_column, pair_of}
 use Rattle.mb_completion.proofs.Births.{finished_run}
 use Rattle.mb_completion.proofs.FreeMoves.{made-moves, made-paths, rule-adds}
-use Rattle.mb_completion.proofs.LookSteps.{sides-are, sides-get}
 use Rattle.mb_completion.proofs.PeaksOfRun.{run_light}
 use Rattle.mb_completion.proofs.Turns.{share}
 use Rattle.mb_completion.specs.Laws.{FinishedIsCertified}
@@ -21,7 +20,7 @@ use Rattle.mb_completion.specs.Start.{births_of}
 use Rattle.mb_matrix.specs.MarkovBasis.{IsMarkovBasis}
 use Rattle.mb_matrix.specs.Matrix.{Design, IsDesign}
 use Rattle.mb_order.proofs.OrderLaws.{eliminates, is_order}
-use Rattle.mb_order.proofs.PeakLaws.{left-is, old_places, pairs-only}
+use Rattle.mb_order.proofs.PeakLaws.{left-is, old_places, pairs-only, sides-are, sides-get}
 use Rattle.mb_order.specs.MarginFree.{margin_free}
 use Rattle.mb_order.specs.Monomial.{Monomial}
 use Rattle.mb_order.specs.Peak.{PairsMeet, left_of, pairs_below, peak, right_in, right_of, shared_pairs, sides_of}
@@ -64,7 +63,7 @@ free-place : (d : ℕ) (rules : List Rule) (k : ℕ) (rule : Rule) → slice_get
 free-place d rules k rule e free =
     let left : left_of rules k ≡ rule.0 = left-is rules k rule e in
     let right : right_of rules k ≡ rule.1 = ap right_in e in
-    let passes = true-both (margin_free d (left_of rules k)) (margin_free d (right_of rules k))
+    let passes = and_from (margin_free d (left_of rules k)) (margin_free d (right_of rules k))
     (ap (margin_free d) left ∙ free.0) (ap (margin_free d) right ∙ free.1) in
     In-place (free_rules d rules) k
     (In-filter (is_free d rules) k (range_with_len 0 (length rules))

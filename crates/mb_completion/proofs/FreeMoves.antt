@@ -1,5 +1,6 @@
 -- The moves and paths that are made of margin-free rules: each path subtracts its rule's own move.
-use Rattle.std.proofs.Common.{List, Some, [], ap, arith, drop, length, length-drop, map, negsuc, refl, slice_get, subst, suc, sym, true, zero, ℕ, ℤ, ◌++◌, ◌+◌, ◌∙◌, ◌∷◌, ◌≡◌, ◌≤◌}
+use Rattle.std.proofs.Common.{List, Some, [], ap, arith, drop, length, length-drop, map, negsuc, refl, slice_get, subst, suc, sym, true, zero, ℕ, ℤ, ◌+◌, ◌∙◌, ◌∷◌, ◌≡◌}
+use Rattle.std.proofs.lemmas.Bool.{and_parts}
 use Rattle.std.proofs.lemmas.Int.{ints}
 use Rattle.std.proofs.lemmas.List.Elements.{filter_passes}
 use Rattle.std.proofs.lemmas.Option.{slice_get-map}
@@ -7,26 +8,21 @@ use Rattle.std.specs.List.{range_with_len}
 use Rattle.std.specs.Option.{option_map}
 use Rattle.std.specs.declared.cmp.Ordering.{Ordering}
 use Rattle.mb_certificate.proofs.LineFaults.{all-at, at-all}
-use Rattle.mb_certificate.proofs.Reasons.{both-true}
 use Rattle.mb_certificate.specs.Certificate.{Path}
 use Rattle.mb_certificate.specs.Valid.{AreMoves, ArePaths, Walks, free_rules, is_free}
-use Rattle.mb_completion.proofs.LookSteps.{sides-get}
 use Rattle.mb_completion.specs.Made.{difference, move_of, moves_of, path_of, paths_from, paths_of}
-use Rattle.mb_matrix.proofs.FillLaws.{length-margins}
 use Rattle.mb_matrix.proofs.MovedMargins.{move_if_kept}
-use Rattle.mb_matrix.specs.Fiber.{AreColumns, margins}
+use Rattle.mb_matrix.specs.Fiber.{AreColumns}
 use Rattle.mb_matrix.specs.Matrix.{Design, IsMove}
-use Rattle.mb_order.proofs.WeightLaws.{symbols-length, weight}
-use Rattle.mb_order.specs.MarginFree.{margin_free}
+use Rattle.mb_order.proofs.MarginFreeLaws.{free-weight}
+use Rattle.mb_order.proofs.PeakLaws.{sides-get}
 use Rattle.mb_order.specs.Monomial.{Monomial}
 use Rattle.mb_order.specs.Peak.{left_of, right_of, sides_of}
 use Rattle.mb_order.specs.Rewriting.{AreValid, Rule}
-use Rattle.mb_order.specs.Weight.{symbols, symbols_of}
+use Rattle.mb_order.specs.Weight.{symbols_of}
 use Rattle.mb_rules.specs.Elimination.{IsFreeRule}
 use Rattle.mb_tables.proofs.ListLaws.{In-filter_only, In-map_range, In-place, place-in, range-only}
-use Rattle.mb_tables.proofs.VectorLaws.{length-zeros, plus-zeros}
 use Rattle.mb_tables.specs.Step.{Adds}
-use Rattle.mb_tables.specs.Vectors.{all_zero, zeros}
 
 -- the second of two vectors and their difference make the first
 difference-adds : (u v : List ℕ) → length u ≡ length v → Adds v (difference u v) u
@@ -35,27 +31,6 @@ difference-adds [] [] e = tt
 difference-adds [] (y ∷ v) e = absurd (omega arith)
 difference-adds (x ∷ u) [] e = absurd (omega arith)
 difference-adds (x ∷ u) (y ∷ v) e = (omega (arith, ints), difference-adds u v (omega arith))
-
--- a margin-free monomial is that of its cells' exponents
-free-whole : (d : ℕ) (m : Monomial) → margin_free d m ≡ true → d ≤ length m →
-    zeros d ++ drop d m ≡ m
-unfolding zeros all_zero
-free-whole zero m e h = refl
-free-whole (suc d) [] e h = absurd (omega arith)
-free-whole (suc d) (zero ∷ m) e h = ap (λ l. 0 ∷ l) (free-whole d m e (omega arith))
-free-whole (suc d) (suc x ∷ m) e h = cc
-
--- so its weight is the margins of these
-free-weight : (d : ℕ) (columns : List (List ℕ)) (m : Monomial) → AreColumns d columns →
-    length m ≡ length (symbols d columns) → margin_free d m ≡ true →
-    margins d (symbols d columns) m ≡ margins d columns (drop d m)
-free-weight d columns m fit w e =
-    let wide = symbols-length d columns in
-    let cells = margins d columns (drop d m) in
-    let high : d ≤ length cells =
-    let l = length-margins d columns (drop d m) fit in omega arith in
-    ap (margins d (symbols d columns)) (sym (free-whole d m e (omega arith)))
-    ∙ weight d columns (zeros d) (drop d m) fit (length-zeros d) ∙ plus-zeros d cells high
 
 -- the rule with the number of a margin-free one is there, and is margin-free
 free-rule : (d : ℕ) (rules : List Rule) (k number : ℕ) →
@@ -69,7 +44,7 @@ free-rule d rules k number e =
     let free = all-at (λ n. test n ≡ true) (free_rules d rules) k number (filter_passes test all) e
     in
     let l = within.1 in
-    (sides-get rules number (omega arith), both-true _ _ free)
+    (sides-get rules number (omega arith), and_parts _ _ free)
 
 module _ (matrix : Design) (compare : Monomial → Monomial → Ordering) (rules : List Rule)
     (fit : AreColumns matrix.rows matrix.columns)

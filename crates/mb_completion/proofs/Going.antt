@@ -1,15 +1,15 @@
 -- How a run goes on, and how it ends.
 use Rattle.std.proofs.Common.{List, None, Some, [], ap, arith, false, inl, inr, length, length-append, refl, slice_get, subst, suc, sym, true, zero, ℕ, ◌++◌, ◌+◌, ◌-◌, ◌<◌, ◌∙◌, ◌∷◌, ◌≡◌, ◌≤◌}
 use Rattle.std.specs.declared.cmp.Ordering.{Ordering}
-use Rattle.mb_completion.proofs.LookSteps.{sides-get}
 use Rattle.mb_completion.proofs.Turns.{before-grown, before-joined, before-passed, share, with}
 use Rattle.mb_completion.specs.Faults.{Stops}
 use Rattle.mb_completion.specs.Run.{Adds, Finished, IsLook, Outcome, Runs, TooHeavy, Unfinished}
-use Rattle.mb_completion.specs.declared.fault.CompleteFault.TheVariants as fault
 use Rattle.mb_completion.specs.declared.fault.CompleteFault.{CompleteFault}
+use Rattle.mb_completion.specs.declared.fault.CompleteFault.TheVariants as fault
 use Rattle.mb_completion.specs.loops.Going.{GoesOn, pairs_before}
 use Rattle.mb_completion.specs.loops.Looking.{HasLooked, IsHeavyPair}
 use Rattle.mb_matrix.specs.Matrix.{Design}
+use Rattle.mb_order.proofs.PeakLaws.{sides-get}
 use Rattle.mb_order.specs.Monomial.{Monomial}
 use Rattle.mb_order.specs.Peak.{left_of, shared_pairs, sides_of}
 use Rattle.mb_order.specs.Rewriting.{Rule}

@@ -1,11 +1,11 @@
 -- The rules that a reduction keeps.
 use Rattle.std.proofs.Common.{Bool, List, Some, [], ap, arith, false, length, not, slice_get, subst, sym, true, ℕ, ◌+◌, ◌<◌, ◌∙◌, ◌∷◌, ◌≡◌}
 use Rattle.std.specs.Bool.{OnFalse}
-use Rattle.mb_completion.proofs.LookSteps.{sides-get}
 use Rattle.mb_completion.proofs.Looks.{fit, ordered}
 use Rattle.mb_completion.specs.loops.Kept.{IsKept}
 use Rattle.mb_matrix.specs.Matrix.{IsDesign}
-use Rattle.mb_order.proofs.PeakLaws.{left-is}
+use Rattle.mb_order.proofs.ExponentLaws.{within-both}
+use Rattle.mb_order.proofs.PeakLaws.{left-is, sides-get}
 use Rattle.mb_order.proofs.WeightLaws.{symbols-length}
 use Rattle.mb_order.specs.Monomial.{Monomial}
 use Rattle.mb_order.specs.Peak.{left_of, right_of, sides_of}
@@ -19,16 +19,10 @@ use Rattle.mb_tables.proofs.ListLaws.{place-within}
 use Rattle.mb_tables.proofs.VectorLaws.{at-minus, at-plus, length-minus, length-plus, plus-nil, same, within-at, within-yes}
 use Rattle.mb_tables.specs.Vectors.{at, minus, plus, within}
 
--- monomials that divide each other are equal
-pub both_within : (a b : List ℕ) → length a ≡ length b → within a b ≡ true → within b a ≡ true →
-    a ≡ b
-both_within a b e f g =
-    same a b e (λ k. let x = within-at a b f k in let y = within-at b a g k in omega arith)
-
 -- the test of the code: it divides and is not the same
 pub unless_same : (x : Bool) (a b : List ℕ) → length a ≡ length b → x ≡ within b a →
     OnFalse (not x) (within a b ≡ true → a ≡ b)
-unless_same true a b e f = λ g. both_within a b e g (sym f)
+unless_same true a b e f = λ g. within-both a b e g (sym f)
 unless_same false a b e f = tt
 
 module _ (list : RuleList) (design : IsDesign list.matrix)

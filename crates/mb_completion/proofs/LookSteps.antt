@@ -1,45 +1,22 @@
 -- One look at a pair, as the code makes it.
-use Rattle.std.proofs.Common.{Err, List, Ok, Result, Some, [], ap, append-nil, arith, inl, length, refl, slice_get, sym, true, ℕ, ◌++◌, ◌<◌, ◌∙◌, ◌∷◌, ◌≡◌}
+use Rattle.std.proofs.Common.{Err, List, Ok, Result, [], ap, append-nil, arith, inl, refl, sym, true, ℕ, ◌++◌, ◌∙◌, ◌∷◌, ◌≡◌}
 use Rattle.std.specs.Ordering.{ordering_reverse}
 use Rattle.std.specs.Result.{IfOk, OnOk}
-use Rattle.std.specs.declared.cmp.Ordering.TheVariants.{Equal, Greater, Less}
 use Rattle.std.specs.declared.cmp.Ordering.{Ordering}
+use Rattle.std.specs.declared.cmp.Ordering.TheVariants.{Equal, Greater, Less}
 use Rattle.mb_completion.specs.Run.{Adds}
 use Rattle.mb_completion.specs.loops.Looking.{IsBorn}
 use Rattle.mb_matrix.specs.Matrix.{Design}
+use Rattle.mb_order.proofs.PeakLaws.{peak-suits}
 use Rattle.mb_order.specs.Monomial.{Exponents, Monomial}
 use Rattle.mb_order.specs.Order.{monomial_cmp}
-use Rattle.mb_order.specs.Peak.{left_in, right_in, sides_of}
 use Rattle.mb_order.specs.Rewriting.{IsValid, Rule}
 use Rattle.mb_order.specs.Weight.{Suits, symbols_of, weights}
 use Rattle.mb_order.specs.declared.order.Order.{Order}
 use Rattle.mb_rules.proofs.RulesInCode.{order, wide}
 use Rattle.mb_rules.specs.RuleList.{AreRules, RuleList, cmp_of}
-use Rattle.mb_tables.proofs.ListLaws.{some_at}
-use Rattle.mb_tables.proofs.VectorLaws.{at-greater, length-greater, within-yes}
+use Rattle.mb_tables.proofs.VectorLaws.{at-greater, within-yes}
 use Rattle.mb_tables.specs.Vectors.{at, greater, within}
-
--- the rule of a number has these sides
-pub sides-get : (rules : List Rule) (k : ℕ) → k < length rules →
-    slice_get rules k ≡ Some (sides_of rules k)
-sides-get rules k h =
-    let r = some_at rules k h in
-    let e = r.1 in
-    e ∙ sym (ap (λ o. let rule : Rule = (left_in o, right_in o) in Some rule) e)
-
--- the sides of a number are its rule's
-pub sides-are : (rules : List Rule) (k : ℕ) (rule : Rule) → slice_get rules k ≡ Some rule →
-    sides_of rules k ≡ rule
-sides-are rules k rule e = ap (λ o. let rule : Rule = (left_in o, right_in o) in rule) e
-
--- a peak has the matrix's shape
-pub peak_suits : (matrix : Design) (a b m : Exponents) → Suits matrix a → Suits matrix b →
-    m.margins ≡ a.margins → m.list ≡ greater a.list b.list → Suits matrix m
-peak_suits matrix a b m f g e h = record {
-  margins = e ∙ f.margins;
-  symbols = ap length h
-      ∙ (let x = f.symbols in let y = g.symbols in omega (arith, length-greater a.list b.list));
-}
 
 -- both left sides divide the peak
 pub left_divides : (a b m : List ℕ) → m ≡ greater a b → within a m ≡ true
@@ -81,7 +58,7 @@ pub lcm_suits : {E : Type 0} (matrix : Design) (a b : Exponents) (r : Result Exp
     Suits matrix a → Suits matrix b →
     IfOk r (λ m. m.margins ≡ a.margins) → IfOk r (λ m. m.list ≡ greater a.list b.list) →
     IfOk r (λ m. Suits matrix m)
-lcm_suits matrix a b (Ok m) f g e h = peak_suits matrix a b m f g e h
+lcm_suits matrix a b (Ok m) f g e h = peak-suits matrix a b m f g e h
 lcm_suits matrix a b (Err x) f g e h = tt
 
 -- what adding gives, by how the two compare

@@ -1,19 +1,19 @@
 -- The joins of the pairs of rules, one after the other.
 use Rattle.std.proofs.Common.{All, List, [], ap, arith, false, length, length-append, map, refl, subst, suc, sym, true, zero, ℕ, ◌++◌, ◌*◌, ◌+◌, ◌<◌, ◌^◌, ◌∙◌, ◌∷◌, ◌≡◌, ◌≤◌}
+use Rattle.std.proofs.lemmas.List.{length-map, map-append}
 use Rattle.std.proofs.lemmas.List.Elements.{All-nil, All-push}
 use Rattle.std.proofs.lemmas.List.FromFn.{length-map-range_with_len}
 use Rattle.std.proofs.lemmas.List.Sums.{count_by-le-length, length-filter}
-use Rattle.std.proofs.lemmas.List.{length-map, map-append}
 use Rattle.std.specs.List.{range_with_len}
 use Rattle.mb_certificate.specs.Certificate.{IsJoin, Join}
 use Rattle.mb_certificate.specs.Valid.{pair_of}
-use Rattle.mb_completion.proofs.LookSteps.{sides-get}
 use Rattle.mb_completion.proofs.Turns.{before-all, before-joined, before-passed, before-row, share, with}
 use Rattle.mb_completion.specs.Made.{AreNormalJoins, IsNormalJoin}
 use Rattle.mb_completion.specs.Run.{AreLightPeaks}
 use Rattle.mb_completion.specs.loops.Going.{pairs_before}
 use Rattle.mb_completion.specs.loops.Making.{AreJoining}
 use Rattle.mb_matrix.specs.Matrix.{Design}
+use Rattle.mb_order.proofs.PeakLaws.{sides-get}
 use Rattle.mb_order.specs.Peak.{left_of, pairs_below, sides_of}
 use Rattle.mb_order.specs.Rewriting.{Rule}
 use Rattle.mb_order.specs.Weight.{IsLight}

@@ -1,5 +1,5 @@
--- By a reduced basis a normal form is the least of its class. So monomials of equal weight have one:
--- the two of each start have, and the two of each join.
+-- By a reduced basis a normal form is the least of its class. So monomials of equal weight have
+-- one: the two of each start have, and the two of each join.
 use Rattle.std.proofs.Common.{List, length, sym, ℕ, ◌∙◌, ◌≡◌}
 use Rattle.std.specs.declared.cmp.Ordering.{Ordering}
 use Rattle.mb_completion.proofs.FromClasses.{AreAlike}

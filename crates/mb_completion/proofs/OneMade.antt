@@ -1,9 +1,9 @@
 -- A certificate that is made of the reduced basis of a finished run is the one that is computed.
 use Rattle.std.proofs.Common.{Bool, List, None, Some, [], ap, arith, false, inl, inr, length, map, not, refl, slice_get, subst, suc, sym, true, zero, ℕ, ℤ, ◌+◌, ◌<◌, ◌∙◌, ◌∷◌, ◌≡◌, ◌≤◌, ◌||◌}
+use Rattle.std.proofs.lemmas.List.{length-map}
 use Rattle.std.proofs.lemmas.List.Elements.{filter_passes}
 use Rattle.std.proofs.lemmas.List.FromFn.{length-range_with_len}
 use Rattle.std.proofs.lemmas.List.Sums.{AllPass-from_list_all, list_all-from_AllPass}
-use Rattle.std.proofs.lemmas.List.{length-map}
 use Rattle.std.specs.List.{filter, position_or_len, range_with_len}
 use Rattle.std.specs.Option.{option_map, option_map_or}
 use Rattle.std.specs.Ordering.{ordering_reverse}
@@ -17,8 +17,7 @@ use Rattle.mb_completion.proofs.Births.{finished_run}
 use Rattle.mb_completion.proofs.ComputedRuns.{form-normal, lowered-at, none-at-end, trace-short}
 use Rattle.mb_completion.proofs.FinishedCertificates.{made-markov}
 use Rattle.mb_completion.proofs.FromClasses.{cell_alike, classes_from_reach, pairs_meet, sides_alike, starts_meet}
-use Rattle.mb_completion.proofs.KeptRules.{both_within, divisor_same, lowered_kept, undivided}
-use Rattle.mb_completion.proofs.LookSteps.{sides-get}
+use Rattle.mb_completion.proofs.KeptRules.{divisor_same, lowered_kept, undivided}
 use Rattle.mb_completion.proofs.Looks.{fit, ordered}
 use Rattle.mb_completion.proofs.MinimalLefts.{reduced_all_valid, reduced_reach}
 use Rattle.mb_completion.proofs.PeaksOfRun.{kept_peaks, run_light}
@@ -37,7 +36,8 @@ use Rattle.mb_completion.specs.loops.Kept.{IsKept}
 use Rattle.mb_matrix.specs.Fiber.{AreColumns, fill}
 use Rattle.mb_matrix.specs.MarkovBasis.{IsMarkovBasis}
 use Rattle.mb_matrix.specs.Matrix.{Design, IsDesign, column_at}
-use Rattle.mb_order.proofs.PeakLaws.{left-is, old_places}
+use Rattle.mb_order.proofs.ExponentLaws.{within-both}
+use Rattle.mb_order.proofs.PeakLaws.{left-is, old_places, sides-get}
 use Rattle.mb_order.proofs.StepLaws.{step-makes}
 use Rattle.mb_order.specs.Monomial.{Monomial}
 use Rattle.mb_order.specs.Order.{IsOrder}
@@ -45,8 +45,8 @@ use Rattle.mb_order.specs.Peak.{left_of, peak, shared_pairs, sides_of}
 use Rattle.mb_order.specs.Rewriting.{AreValid, Rule, made}
 use Rattle.mb_order.specs.Weight.{symbols_of, weights}
 use Rattle.mb_order.specs.declared.order.Order.{Order}
-use Rattle.mb_rules.proofs.NormalForms.{has_normal}
 use Rattle.mb_rules.proofs.Confluence.{rank_within, step_wide}
+use Rattle.mb_rules.proofs.NormalForms.{has_normal}
 use Rattle.mb_rules.specs.NormalForm.{NormalBy}
 use Rattle.mb_rules.specs.ReducedBasis.{IsMinimalLeft, IsReduction, LeftsAscend}
 use Rattle.mb_rules.specs.RuleList.{RuleList, ValidRules, cmp_of}
@@ -99,7 +99,8 @@ module _ (compare : Monomial → Monomial → Ordering) where
         let same : (h.0).0 ≡ z.0 = elim h.2 [
           | inl f ↦ ap (λ (r : Rule). r.0) f
           | inr g ↦
-              order.definite (h.0).0 z.0 (long h.0 (inr (order-only zs h.0 g.0))) (long z (inl refl)) g.1
+              order.definite (h.0).0 z.0 (long h.0 (inr (order-only zs h.0 g.0)))
+              (long z (inl refl)) g.1
         ] in
         (h.0, h.1, same ∙ ap (λ (r : Rule). r.0) (sym e))
     order-has (z ∷ zs) long x (inr i) =
@@ -142,10 +143,11 @@ module _ (matrix : Design) (order : Order) (rules : List Rule) (design : IsDesig
       (AllPass-from_list_all (test rule) rules t) other.1 in
       let there : within (other.0).0 rule.0 ≡ true =
       ap (λ u. within u rule.0) (sym a) ∙ ap (within (left_of rules i)) (sym b) ∙ w in
-      let back = second-passes (within (other.0).0 rule.0) (within rule.0 (other.0).0) passes there in
+      let back = second-passes (within (other.0).0 rule.0)
+      (within rule.0 (other.0).0) passes there in
       let long : length (other.0).0 ≡ length rule.0 =
       (valid i other.0 other.1).left_wide ∙ sym (valid k rule e).left_wide in
-      a ∙ both_within (other.0).0 rule.0 long there back ∙ sym b)
+      a ∙ within-both (other.0).0 rule.0 long there back ∙ sym b)
 
   -- and one whose left side is minimal passes
   minimal-passes : (k : ℕ) (rule : Rule) → slice_get rules k ≡ Some rule →
@@ -155,7 +157,8 @@ module _ (matrix : Design) (order : Order) (rules : List Rule) (design : IsDesig
       (λ i other f. either-passes (within other.0 rule.0) (within rule.0 other.0) (λ w.
       let a = left-is rules i other f in
       let b = left-is rules k rule e in
-      let same = divisor_same list design valid i k (place-within rules i other f) (place-within rules k rule e)
+      let same = divisor_same list design valid i k (place-within rules i other f)
+      (place-within rules k rule e)
       (ap (λ u. within u (left_of rules k)) a ∙ ap (within other.0) b ∙ w)
       (subst (IsMinimalLeft rules) (sym b) minimal) in
       let equal : other.0 ≡ rule.0 = sym a ∙ same ∙ b in
@@ -172,7 +175,8 @@ module _ (matrix : Design) (order : Order) (rules : List Rule) (design : IsDesig
       let x = m.0 in
       let p = In-place rules x (In-filter_only (is_minimal rules) x rules m.1) in
       let q = In-place (filter (is_minimal rules) rules) x m.1 in
-      let t = all-at (λ (y : Rule). is_minimal rules y ≡ true) (filter (is_minimal rules) rules) q.0 x
+      let t = all-at (λ (y : Rule). is_minimal rules y ≡ true)
+      (filter (is_minimal rules) rules) q.0 x
       (filter_passes (is_minimal rules) rules) q.1 in
       let v = valid p.0 x p.1 in
       let n = form-normal matrix order design rules valid x.1 v.right_wide in
@@ -389,7 +393,8 @@ module _ (c : Certificate) (design : IsDesign c.matrix)
       n.cell)
 
   -- so are all
-  starts-are : c.starts ≡ map (start_at c.matrix c.rules) (range_with_len 0 (length c.matrix.columns))
+  starts-are : c.starts ≡ map (start_at c.matrix c.rules)
+      (range_with_len 0 (length c.matrix.columns))
   starts-are =
       placed (start_at c.matrix c.rules) 0 c.starts (λ j start e.
       let here : j ≡ 0 + j = omega arith in
@@ -411,7 +416,8 @@ module _ (c : Certificate) (design : IsDesign c.matrix)
       let forms = all-at (IsNormalJoin c.rules) c.joins k join made-of.joins.normal e in
       same-join join (normal_trace c.matrix c.rules (made low (peak low high)))
       (normal_trace c.matrix c.rules (made high (peak low high)))
-      (trace-is c.matrix c.order c.rules design valid join.low_steps (made low (peak low high)) alike.0
+      (trace-is c.matrix c.order c.rules design valid join.low_steps
+      (made low (peak low high)) alike.0
       forms.0)
       (trace-is c.matrix c.order c.rules design valid join.high_steps (made high (peak low high))
       alike.1 forms.1)
@@ -473,14 +479,16 @@ module _ (matrix : Design) (order : Order) (rules : List Rule) (design : IsDesig
       each_cell = length-map (range_with_len 0 (length matrix.columns)) (start_at matrix rules)
           ∙ length-range_with_len 0 (length matrix.columns);
       normal = λ j start e.
-          (let at = mapped-at (start_at matrix rules) (range_with_len 0 (length matrix.columns)) j start
+          (let at = mapped-at (start_at matrix rules)
+          (range_with_len 0 (length matrix.columns)) j start
           e in
           let place = place-within (range_with_len 0 (length matrix.columns)) j at.0 at.1 in
           let long = length-range_with_len 0 (length matrix.columns) in
           let same : 0 + j ≡ j = omega arith in
           let cell : at.0 ≡ j = number-at 0 (length matrix.columns) j at.0 at.1 ∙ same in
           let column = some_at matrix.columns j (omega arith) in
-          let here : column_at matrix j ≡ column.0 = read-at matrix.columns j column.0 [] column.1 in
+          let here : column_at matrix j ≡ column.0 =
+          read-at matrix.columns j column.0 [] column.1 in
           let alike = cell_alike matrix.rows matrix.columns j column.0 design.each column.1 in
           subst (IsNormalStart matrix rules j)
           (sym (at.2 ∙ ap (start_at matrix rules) cell))
@@ -510,8 +518,8 @@ module _ (matrix : Design) (order : Order) (rules : List Rule) (design : IsDesig
     paths = refl;
   }
 
--- the computed certificate of a finished run has the reduced basis, it is valid, and its moves are a
--- Markov basis
+-- the computed certificate of a finished run has the reduced basis, it is valid, and its moves are
+-- a Markov basis
 pub run_certified : (matrix : Design) (order : Order) (pairs : ℕ) (final : List Rule) (looks : ℕ) →
     IsDesign matrix → RunEnds matrix order pairs (Finished final looks) →
     IsReducedBasis matrix order (reduced_of matrix order final)

@@ -5,7 +5,7 @@ use Rattle.mb_completion.proofs.RunEndings.{final_is, not_heavy, not_unfinished}
 use Rattle.mb_completion.specs.Run.{AreLightPeaks, Finished, Runs}
 use Rattle.mb_matrix.specs.Matrix.{Design}
 use Rattle.mb_order.proofs.PeakLaws.{In-pairs, left-front, left-is, old_places}
-use Rattle.mb_order.proofs.SymbolSets.{not_false, shares-place}
+use Rattle.mb_order.proofs.SymbolSets.{shares-place}
 use Rattle.mb_order.specs.Peak.{left_of, pairs_below, shared_pairs}
 use Rattle.mb_order.specs.Rewriting.{Rule}
 use Rattle.mb_order.specs.Weight.{IsLight}
@@ -14,6 +14,7 @@ use Rattle.mb_rules.specs.ReducedBasis.{IsReduction}
 use Rattle.mb_tables.proofs.ListLaws.{In-filter, In-place, get-front, none-past, place-within}
 use Rattle.mb_tables.proofs.VectorLaws.{at-greater, length-greater, same, shares-no}
 use Rattle.mb_tables.specs.Vectors.{greater, shares}
+use Rattle.std.proofs.lemmas.Bool.{true_from_ne_false}
 
 -- the peaks of the pairs looked at are not too heavy
 abbrev Looked : Design → List Rule → ℕ → Type 0
@@ -106,7 +107,7 @@ greater-turned u v =
 -- a symbol in both is one in both
 shares-turned : (u v : List ℕ) → shares u v ≡ true → shares v u ≡ true
 shares-turned u v s =
-    not_false (shares v u) (λ e.
+    true_from_ne_false (shares v u) (λ e.
     let r = shares-place u v s in
     let a = r.1 in
     let b = r.2 in

@@ -7,7 +7,7 @@ use Rattle.mb_completion.specs.loops.Going.{pairs_before}
 use Rattle.mb_order.proofs.PeakLaws.{left-front, pairs-only}
 use Rattle.mb_order.specs.Peak.{left_of, pairs_below, shared_pairs}
 use Rattle.mb_order.specs.Rewriting.{Rule}
-use Rattle.mb_tables.proofs.ListLaws.{In-cases, In-map_range, filter-append, filter-same, range-only}
+use Rattle.mb_tables.proofs.ListLaws.{In-cases, In-map_range, filter-append, filter-same, get-middle, range-only}
 use Rattle.mb_tables.specs.Vectors.{shares}
 
 -- the left sides of a pair of rules share a symbol
@@ -105,12 +105,6 @@ all-front n i j h l =
           (sym (append_assoc (pairs_below j) row (with j i ∷ map (with j) s.0)))
           ∙ append_assoc (pairs_below j ++ row) (with j i ∷ map (with j) s.0) r.0,
     )
-
--- what stands between a front and a back
-get-middle : {X : Type 0} (xs : List X) (x : X) (ys : List X) →
-    slice_get (xs ++ (x ∷ ys)) (length xs) ≡ Some x
-get-middle [] x ys = refl
-get-middle (z ∷ xs) x ys = get-middle xs x ys
 
 -- after the pairs before it, the pair takes its turn
 pub turn : (rules : List Rule) (i j : ℕ) → i < j → j < length rules → share rules (i, j) ≡ true →

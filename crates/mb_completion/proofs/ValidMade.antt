@@ -9,7 +9,6 @@ use Rattle.mb_certificate.specs.Certificate.{Certificate, Join}
 use Rattle.mb_certificate.specs.Valid.{AreJoins, AreRules, AreStarts, ArePaths, AreMoves, IsValid, PeakMeets, TracesMeet, of_cell, of_column, pair_of}
 use Rattle.mb_completion.proofs.FreeMoves.{made-moves, made-paths}
 use Rattle.mb_completion.proofs.FromClasses.{AreAlike, cell_alike, sides_alike}
-use Rattle.mb_completion.proofs.LookSteps.{sides-get}
 use Rattle.mb_completion.proofs.MinimalLefts.{reduced_all_valid}
 use Rattle.mb_completion.proofs.NormalEnds.{one_form}
 use Rattle.mb_completion.proofs.Turns.{share}
@@ -20,7 +19,7 @@ use Rattle.mb_completion.specs.Run.{AreLightPeaks}
 use Rattle.mb_matrix.specs.Fiber.{AreColumns}
 use Rattle.mb_matrix.specs.Matrix.{Design, IsDesign}
 use Rattle.mb_order.proofs.OrderLaws.{is_order}
-use Rattle.mb_order.proofs.PeakLaws.{old_places, pairs-only}
+use Rattle.mb_order.proofs.PeakLaws.{old_places, pairs-only, sides-get}
 use Rattle.mb_order.proofs.WeightLaws.{symbols-fit}
 use Rattle.mb_order.specs.Monomial.{Monomial}
 use Rattle.mb_order.specs.Order.{IsOrder}

@@ -17,13 +17,15 @@ use Rattle.mb_data.proofs.HeaderSteps.{failed, passed}
 use Rattle.mb_data.proofs.KeyLaws.{and_left, and_right}
 
 -- the rows with that of a record
-pub step_is : (columns : Columns) (number : ℕ) (rows : List Row) (fields : List (List ℕ)) (row : Row)
+pub step_is : (columns : Columns) (number : ℕ) (rows : List Row)
+    (fields : List (List ℕ)) (row : Row)
     → row_of columns number fields ≡ Ok row
     → next_rows columns number rows fields ≡ with_row number rows row
 step_is columns number rows fields row is = rw is refl
 
 -- a row whose levels have an entry is a repeat
-pub repeat_refused : (number : ℕ) (rows : List Row) (row : Row) (found : Option Entry) → IsSome found
+pub repeat_refused : (number : ℕ) (rows : List Row) (row : Row)
+    (found : Option Entry) → IsSome found
     → found ≡ entry_by_rows rows row.levels → with_row number rows row ≡ Err (Repeated number)
 repeat_refused number rows row None some is = absurd (cc some)
 repeat_refused number rows row (Some entry) some is = rw (sym is) refl

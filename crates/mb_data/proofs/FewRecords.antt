@@ -35,4 +35,9 @@ shorter (a ∷ b ∷ c ∷ rest) = skipped (is_bom a b c) (a ∷ b ∷ c ∷ res
 
 pub few_records : (text : List ℕ) → length (records_of text) ≤ length text + 1
 few_records text =
-    omega (arith, few_from (length (strip_bom text) + 1) st.StartRecord (strip_bom text), shorter text)
+    omega (
+      arith,
+      few_from (length (strip_bom text) + 1) st.StartRecord
+          (strip_bom text),
+      shorter text,
+    )

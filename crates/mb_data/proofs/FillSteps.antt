@@ -42,7 +42,8 @@ pub entry_fits : (factors : ℕ) (rows : List Row) (levels : List (List (List �
     → number < combinations (sizes levels) → entries ≡ first_entries rows levels number
     → sum_so_far ≡ sum (counts entries) → entry ≡ entry_in rows (names_at levels number)
     → sum_so_far + counted entry ≤ 1000000
-entry_fits factors rows levels kept total number sum_so_far entries entry gathers small below are sum_is is =
+entry_fits factors rows levels kept total number sum_so_far entries entry gathers small
+    below are sum_is is =
     let fits = one_fits levels rows number sum_so_far entries
     (λ k. (gathered_sound factors rows levels kept total gathers k).0) below are sum_is in
     let same : counted entry ≡ counted (entry_in rows (names_at levels number)) = ap counted is in
@@ -57,7 +58,8 @@ one_more rows levels number entries entry are is =
     ap (λ list. list ++ entry ∷ []) are
     ∙ ap (λ (e : Entry). first_entries rows levels number ++ e ∷ []) is
     ∙ sym (map-range_with_len_more
-    (λ k. entry_in rows (named levels (combination (sizes levels) k))) 0 number number (omega arith))
+    (λ k. entry_in rows (named levels (combination (sizes levels) k))) 0 number
+    number (omega arith))
 
 -- more than 64 cells among the first entries are more than 64 in all
 pub too_many : (rows : List Row) (levels : List (List (List ℕ))) (number : ℕ)
@@ -71,7 +73,8 @@ too_many rows levels number entries within are many =
     (λ k. entry_in rows (named levels (combination (sizes levels) k))) 0
     (combinations (sizes levels)) number within ∙ sym are in
     let parts : counts all ≡ counts entries ++ counts (drop number all) =
-    ap counts (sym (take-append-drop number all)) ∙ filter_map-append count_in (take number all) (drop number all)
+    ap counts (sym (take-append-drop number all)) ∙ filter_map-append count_in
+    (take number all) (drop number all)
     ∙ ap (λ (list : List Entry). counts list ++ counts (drop number all)) front in
     let long : length (counts all) ≡ length (counts entries) + length (counts (drop number all)) =
     ap (λ (list : List ℕ). length list) parts

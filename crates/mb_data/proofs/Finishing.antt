@@ -1,4 +1,4 @@
--- A dataset of what was gathered, and where there is none.
+-- A dataset of what was gathered.
 use Rattle.std.proofs.Common.{Err, List, Ok, Option, ap, arith, false, length, nat_le, refl, sym, true, ℕ, ◌==◌, ◌∙◌, ◌≡◌, ◌≢◌}
 use Rattle.std.proofs.lemmas.Bool.{le-leb}
 use Rattle.std.proofs.lemmas.List.FromFn.{length-map-range_with_len}
@@ -70,5 +70,6 @@ pub dataset_said : (factors : List (List ℕ)) (rows : List Row) (levels : List 
 dataset_said factors rows levels kept total cells counted entries is are filled some =
     let number = length (counts entries) in
     let more : (number == 0) ≡ false = ap (λ n. n == 0) (sym filled.cells_are) ∙ some in
-    let few : nat_le number 64 ≡ true = le-leb number 64 (omega (arith, filled.few, filled.cells_are)) in
+    let few : nat_le number 64 ≡ true = le-leb number 64
+    (omega (arith, filled.few, filled.cells_are)) in
     ap with_cells (table_is factors rows levels kept total entries is are) ∙ rw (more, few) refl

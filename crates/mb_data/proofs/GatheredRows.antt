@@ -77,7 +77,8 @@ pub entry_stays : (rows : List Row) (row : Row) (names : List (List ℕ))
     → same_levels row.levels names ≡ false
     → entry_by_rows (rows ++ row ∷ []) names ≡ entry_by_rows rows names
 entry_stays rows row names other =
-    let here : find (λ (row : Row). same_levels row.levels names) (row ∷ []) ≡ None = rw other refl in
+    let here : find (λ (row : Row). same_levels row.levels names) (row ∷ [])
+    ≡ None = rw other refl in
     ap (option_map (λ (row : Row). row.entry))
     (find-append (λ (row : Row). same_levels row.levels names) rows (row ∷ [])
     ∙ rw here (found_first (find (λ (row : Row). same_levels row.levels names) rows)))
@@ -144,7 +145,8 @@ gathers_more factors rows row levels before after total so_far text new put = re
         ∙ rw (keys_apart row.levels names text texts other)
         (so_far.entries names texts ∙ sym (entry_stays rows row names other))
   ];
-  total_is = ap (λ n. n + counted row.entry) so_far.total_is ∙ sym (sum_by_push (λ (row : Row). counted row.entry) rows row);
+  total_is = ap (λ n. n + counted row.entry) so_far.total_is
+      ∙ sym (sum_by_push (λ (row : Row). counted row.entry) rows row);
 }
 
 -- what is kept of no row

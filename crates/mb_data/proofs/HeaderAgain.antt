@@ -1,7 +1,7 @@
 -- The factors of a header that is accepted, and then `count`, are such a header.
 use Rattle.std.proofs.Common.{Bool, List, None, Ok, Option, Some, [], ap, append-nil, append_assoc, arith, cond, drop, false, get_or, inl, inr, length, nat_lt, refl, suc, sym, take, true, zero, ℕ, ◌&&◌, ◌+◌, ◌++◌, ◌==◌, ◌||◌, ◌∙◌, ◌∷◌, ◌≡◌, ◌≢◌, ◌≤◌}
 use Rattle.std.proofs.Math.Seq.{drop-append-add, drop-cons, take-append_seam}
-use Rattle.std.proofs.lemmas.Bool.{cases_Bool, lt-ltb, ne_eqb}
+use Rattle.std.proofs.lemmas.Bool.{cases_Bool, lt-ltb, ne_eqb, or_from}
 use Rattle.std.proofs.lemmas.List.{length-append, take-append-drop}
 use Rattle.std.proofs.lemmas.List.Folds.{list_all-append, list_any-append}
 use Rattle.std.proofs.lemmas.List.Quantifiers.{position-Some}
@@ -35,7 +35,8 @@ apart_passed fields columns is = elim (cases_Bool (has_repeat [] fields)) [
 -- and a column of counts, which isn't alone
 place_passed : (fields : List (List ℕ)) (columns : Columns) (found : Option ℕ)
     → columns_at fields found ≡ Ok columns
-    → (place : ℕ) × (found ≡ Some place) × (length fields ≢ 1) × (columns.factors ≡ remove fields place)
+    → (place : ℕ) × (found ≡ Some place) × (length fields ≢ 1)
+    × (columns.factors ≡ remove fields place)
 place_passed fields columns None is = absurd (cc is)
 place_passed fields columns (Some place) is = elim (cases_Bool (length fields == 1)) [
   | inl alone ↦ absurd (cc (rw alone at is))
@@ -67,10 +68,6 @@ repeat_parts earlier (name ∷ front) back =
     or_assoc true b c = refl
     or_assoc false b c = refl
 
--- two tests that fail
-neither : (a b : Bool) → a ≡ false → b ≡ false → (a || b) ≡ false
-neither a b no_a no_b = rw (no_a, no_b) refl
-
 -- two names are equal both ways or none
 other_way : (a b : List ℕ) → bytes_eq a b ≡ false → bytes_eq b a ≡ false
 other_way a b not = elim (cases_Bool (bytes_eq b a)) [
@@ -88,20 +85,23 @@ fewer_earlier : (some more : List (List ℕ)) (name : List ℕ) (names : List (L
 unfolding has_repeat
 fewer_earlier some more name [] less none = (refl, refl)
 fewer_earlier some more name (first ∷ names) less none =
-    let new = or_left (list_any (bytes_eq first) more) (has_repeat (more ++ first ∷ []) names) none in
+    let new = or_left (list_any (bytes_eq first) more)
+    (has_repeat (more ++ first ∷ []) names) none in
     let here = less first new in
     let rest = fewer_earlier (some ++ first ∷ []) (more ++ first ∷ []) name names
     (λ z apart.
     let parts = sym (list_any-append (bytes_eq z) more (first ∷ [])) ∙ apart in
-    let before = less z (or_left (list_any (bytes_eq z) more) (list_any (bytes_eq z) (first ∷ [])) parts) in (
+    let before = less z (or_left (list_any (bytes_eq z) more)
+    (list_any (bytes_eq z) (first ∷ [])) parts) in (
       list_any-append (bytes_eq z) some (first ∷ [])
-          ∙ neither (list_any (bytes_eq z) some) (list_any (bytes_eq z) (first ∷ [])) before.0
+          ∙ or_from (list_any (bytes_eq z) some) (list_any (bytes_eq z) (first ∷ [])) before.0
           (or_right (list_any (bytes_eq z) more) (list_any (bytes_eq z) (first ∷ [])) parts),
       before.1,
     ))
     (or_right (list_any (bytes_eq first) more) (has_repeat (more ++ first ∷ []) names) none) in (
-      neither (list_any (bytes_eq first) some) (has_repeat (some ++ first ∷ []) names) here.0 rest.0,
-      neither (bytes_eq name first) (list_any (bytes_eq name) names)
+      or_from (list_any (bytes_eq first) some)
+          (has_repeat (some ++ first ∷ []) names) here.0 rest.0,
+      or_from (bytes_eq name first) (list_any (bytes_eq name) names)
           (other_way first name here.1) rest.1,
     )
 
@@ -115,7 +115,8 @@ moved_apart front back name none =
     let parts = sym (repeat_parts [] front (name ∷ back)) ∙ none in
     let before = or_left (has_repeat [] front) (has_repeat front (name ∷ back)) parts in
     let after = or_right (has_repeat [] front) (has_repeat front (name ∷ back)) parts in
-    let new = or_left (list_any (bytes_eq name) front) (has_repeat (front ++ name ∷ []) back) after in
+    let new = or_left (list_any (bytes_eq name) front)
+    (has_repeat (front ++ name ∷ []) back) after in
     let rest = fewer_earlier front (front ++ name ∷ []) name back
     (λ z apart.
     let two = sym (list_any-append (bytes_eq z) front (name ∷ [])) ∙ apart in (
@@ -125,11 +126,12 @@ moved_apart front back name none =
     ))
     (or_right (list_any (bytes_eq name) front) (has_repeat (front ++ name ∷ []) back) after) in
     let missing = list_any-append (bytes_eq name) front back
-    ∙ neither (list_any (bytes_eq name) front) (list_any (bytes_eq name) back) new rest.1 in (
+    ∙ or_from (list_any (bytes_eq name) front) (list_any (bytes_eq name) back) new rest.1 in (
       repeat_parts [] (front ++ back) (name ∷ [])
-          ∙ neither (has_repeat [] (front ++ back)) (has_repeat (front ++ back) (name ∷ []))
-          (repeat_parts [] front back ∙ neither (has_repeat [] front) (has_repeat front back) before rest.0)
-          (neither (list_any (bytes_eq name) (front ++ back)) false missing refl),
+          ∙ or_from (has_repeat [] (front ++ back)) (has_repeat (front ++ back) (name ∷ []))
+          (repeat_parts [] front back ∙ or_from (has_repeat [] front)
+          (has_repeat front back) before rest.0)
+          (or_from (list_any (bytes_eq name) (front ++ back)) false missing refl),
       missing,
     )
 
@@ -153,11 +155,13 @@ header_whole : (names : List (List ℕ)) → list_all is_header_field (names ++ 
 header_whole names texts apart none some =
     let fields = names ++ count_word ∷ [] in
     let long : length fields ≡ length names + 1 = length-append names (count_word ∷ []) in
-    let within : nat_lt (length names) (length fields) ≡ true = lt-ltb (length names) (length fields) (omega (arith, long)) in
+    let within : nat_lt (length names) (length fields) ≡ true =
+    lt-ltb (length names) (length fields) (omega (arith, long)) in
     let found : position is_count fields ≡ Some (length names) =
     ap (λ n. cond (nat_lt n (length fields)) (Some n) None) (count_last names none)
     ∙ rw within refl in
-    let more : (length fields == 1) ≡ false = ne_eqb (length fields) 1 (λ one. absurd (omega (arith, one, long, some))) in
+    let more : (length fields == 1) ≡ false = ne_eqb (length fields) 1
+    (λ one. absurd (omega (arith, one, long, some))) in
     let rest : drop (suc (length names)) fields ≡ [] =
     ap (λ n. drop n fields) (let e : suc (length names) ≡ length names + 1 = omega arith in e)
     ∙ drop-append-add names (count_word ∷ []) 1 in
@@ -205,7 +209,8 @@ header_again fields columns is =
     let long : length fields ≡ length front + length (count_word ∷ back) =
     ap (λ (list : List (List ℕ)). length list) whole ∙ length-append front (count_word ∷ back) in
     let short : length (front ++ back) ≡ length front + length back = length-append front back in
-    let some : 1 ≤ length (front ++ back) = many (length fields) (length back) (length front) (length (front ++ back)) long short at.2 in
+    let some : 1 ≤ length (front ++ back) = many (length fields) (length back) (length front)
+    (length (front ++ back)) long short at.2 in
     rw at.3 (record {
       some = some;
       header = header_whole (front ++ back) all moved.0 moved.1 some;

@@ -28,26 +28,28 @@ no_repeat_yet earlier name rest is = rw is refl
 pub repeat_ends : (earlier names : List (List ℕ)) (k : ℕ) (new whole : Bool) → k < length names
     → new ≡ not (list_any (bytes_eq (get_or names k [])) earlier) → new ≡ false
     → whole ≡ has_repeat earlier (drop k names) → true ≡ whole
-repeat_ends earlier names k new whole within is old so_far = elim (cases_Bool (list_any (bytes_eq (get_or names k [])) earlier)) [
-  | inl there ↦
-      sym (so_far ∙ ap (has_repeat earlier) (drop-cons names k [] within)
-      ∙ repeat_found earlier (get_or names k []) (drop (suc k) names) there)
-  | inr none ↦ absurd (cc (sym old ∙ is ∙ ap not none))
-]
+repeat_ends earlier names k new whole within is old so_far =
+    elim (cases_Bool (list_any (bytes_eq (get_or names k [])) earlier)) [
+      | inl there ↦
+          sym (so_far ∙ ap (has_repeat earlier) (drop-cons names k [] within)
+          ∙ repeat_found earlier (get_or names k []) (drop (suc k) names) there)
+      | inr none ↦ absurd (cc (sym old ∙ is ∙ ap not none))
+    ]
 
 -- it goes on after a new name
 pub repeat_goes : (earlier names : List (List ℕ)) (k : ℕ) (new whole : Bool) → k < length names
     → new ≡ not (list_any (bytes_eq (get_or names k [])) earlier) → new ≡ true
     → whole ≡ has_repeat earlier (drop k names)
     → whole ≡ has_repeat (with_name earlier (get_or names k [])) (drop (k + 1) names)
-repeat_goes earlier names k new whole within is fresh so_far = elim (cases_Bool (list_any (bytes_eq (get_or names k [])) earlier)) [
-  | inl there ↦ absurd (cc (sym fresh ∙ is ∙ ap not there))
-  | inr none ↦
-      so_far ∙ ap (has_repeat earlier) (drop-cons names k [] within)
-      ∙ no_repeat_yet earlier (get_or names k []) (drop (suc k) names) none
-      ∙ ap (λ n. has_repeat (with_name earlier (get_or names k [])) (drop n names))
-      (let e : suc k ≡ k + 1 = omega arith in e)
-]
+repeat_goes earlier names k new whole within is fresh so_far =
+    elim (cases_Bool (list_any (bytes_eq (get_or names k [])) earlier)) [
+      | inl there ↦ absurd (cc (sym fresh ∙ is ∙ ap not there))
+      | inr none ↦
+          so_far ∙ ap (has_repeat earlier) (drop-cons names k [] within)
+          ∙ no_repeat_yet earlier (get_or names k []) (drop (suc k) names) none
+          ∙ ap (λ n. has_repeat (with_name earlier (get_or names k [])) (drop n names))
+          (let e : suc k ≡ k + 1 = omega arith in e)
+    ]
 
 -- it has found none when no name is left
 pub repeat_none : (earlier names : List (List ℕ)) (k : ℕ) (whole : Bool) → length names ≤ k

@@ -45,7 +45,11 @@ character_bytes c below = elim (cases_Bool (ltb c 128)) [
   | inr more ↦ rw more (elim (cases_Bool (ltb c 2048)) [
     | inl two ↦
         let small = ltb-true c 2048 two in
-        rw (two, not_end (192 + c / 64) (omega (arith, small)), not_end (128 + c % 64) (omega arith)) refl
+        rw (
+          two,
+          not_end (192 + c / 64) (omega (arith, small)),
+          not_end (128 + c % 64) (omega arith),
+        ) refl
     | inr further ↦ rw further (elim (cases_Bool (ltb c 65536)) [
       | inl three ↦
           let small = ltb-true c 65536 three in
@@ -94,9 +98,11 @@ cut_alike : (a b s t : List ℕ) → list_any is_end a ≡ false → list_any is
     → a ++ 255 ∷ s ≡ b ++ 255 ∷ t → (a ≡ b) × (s ≡ t)
 cut_alike [] [] s t no_a no_b same = (refl, cc same)
 cut_alike [] (y ∷ b) s t no_a no_b same =
-    let is : 255 ≡ y = cc same in absurd (cc (sym (or_left (y == 255) (list_any is_end b) no_b) ∙ ap (λ n. n == 255) (sym is)))
+    let is : 255 ≡ y = cc same in absurd (cc (sym (or_left (y == 255) (list_any is_end b) no_b)
+    ∙ ap (λ n. n == 255) (sym is)))
 cut_alike (x ∷ a) [] s t no_a no_b same =
-    let is : x ≡ 255 = cc same in absurd (cc (sym (or_left (x == 255) (list_any is_end a) no_a) ∙ ap (λ n. n == 255) is))
+    let is : x ≡ 255 = cc same in
+    absurd (cc (sym (or_left (x == 255) (list_any is_end a) no_a) ∙ ap (λ n. n == 255) is))
 cut_alike (x ∷ a) (y ∷ b) s t no_a no_b same =
     let first : x ≡ y = cc same in
     let rest = cut_alike a b s t (or_right (x == 255) (list_any is_end a) no_a)
@@ -143,4 +149,5 @@ pub key_whole : (names : List (List ℕ)) (k : ℕ) (front : List ℕ) → lengt
     → front ++ key_of (drop k names) ≡ key_of names → front ≡ key_of names
 unfolding key_of
 key_whole names k front past so_far =
-    sym (append-nil front) ∙ ap (λ rest. front ++ key_of rest) (sym (drop_all k names past)) ∙ so_far
+    sym (append-nil front) ∙ ap (λ rest. front ++ key_of rest)
+    (sym (drop_all k names past)) ∙ so_far

@@ -25,9 +25,11 @@ pub size_there : (sizes : List ℕ) (number factor : ℕ) → number < combinati
     → factor < length sizes → 1 ≤ get_or sizes factor 0
 unfolding combinations
 size_there [] number factor some within = absurd (omega (arith, within))
-size_there (size ∷ sizes) number zero some within = first_there size (combinations sizes) number some
+size_there (size ∷ sizes) number zero some within =
+    first_there size (combinations sizes) number some
 size_there (size ∷ sizes) number (suc factor) some within =
-    let there : 0 < combinations sizes = omega (arith, rest_there size (combinations sizes) number some) in
+    let there : 0 < combinations sizes =
+    omega (arith, rest_there size (combinations sizes) number some) in
     size_there sizes 0 factor there (omega (arith, within))
 
 -- how many combinations there are of one factor more
@@ -62,7 +64,8 @@ digit_after (size ∷ sizes) (suc factor) number within some =
     let two : 0 < combinations sizes = rest_there size (combinations sizes) 0 some in
     let below : factor < length sizes = omega (arith, within) in
     sym (digit_after sizes factor (number % (size * combinations sizes)) below two)
-    ∙ ap (λ n. n % combinations sizes / combinations (drop (suc factor) sizes) % get_or sizes factor 0)
+    ∙ ap (λ n. n % combinations sizes / combinations (drop (suc factor) sizes) %
+    get_or sizes factor 0)
     (mod-mul number one two)
     ∙ ap (λ n. n / combinations (drop (suc factor) sizes) % get_or sizes factor 0)
     (mod-mul-add (number / combinations sizes % size) (combinations sizes)

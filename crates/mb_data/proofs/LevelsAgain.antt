@@ -22,10 +22,12 @@ next_quotient : (k stride : ℕ) → 0 < stride
     → (suc k / stride ≡ k / stride) ⊎ (suc k / stride ≡ suc (k / stride))
 next_quotient k stride some = elim (up_to (k % stride) (mod-lt k some)) [
   | inl less ↦ inl
-      (ap (λ n. n / stride) (let e : suc k ≡ k / stride * stride + suc (k % stride) = omega (arith, div-add-mod k stride, same) in e)
+      (ap (λ n. n / stride) (let e : suc k ≡ k / stride * stride + suc (k % stride) =
+      omega (arith, div-add-mod k stride, same) in e)
       ∙ div-mul-add (k / stride) stride (suc (k % stride)) less)
   | inr last ↦ inr
-      (ap (λ n. n / stride) (let e : suc k ≡ suc (k / stride) * stride + 0 = omega (arith, div-add-mod k stride, same, last, more) in e)
+      (ap (λ n. n / stride) (let e : suc k ≡ suc (k / stride) * stride + 0 =
+      omega (arith, div-add-mod k stride, same, last, more) in e)
       ∙ div-mul-add (suc (k / stride)) stride 0 some)
 ]
   where
@@ -41,11 +43,13 @@ next_quotient k stride some = elim (up_to (k % stride) (mod-lt k some)) [
 -- the level of a combination is the next one, or it was seen
 step : (size stride k : ℕ) → 0 < size → 0 < stride
     → ((k / stride % size < seen size stride k) × (seen size stride (suc k) ≡ seen size stride k))
-    ⊎ ((k / stride % size ≡ seen size stride k) × (seen size stride (suc k) ≡ suc (seen size stride k)) × (seen size stride k < size))
+    ⊎ ((k / stride % size ≡ seen size stride k)
+    × (seen size stride (suc k) ≡ suc (seen size stride k)) × (seen size stride k < size))
 step size stride zero some wide =
     let none : 0 / stride ≡ 0 = div-eq_of_lt wide in
     let first : 0 / stride % size ≡ 0 = ap (λ n. n % size) none ∙ mod-eq_of_lt some in
-    let one : min size (suc (0 / stride)) ≡ 1 = ap (λ n. min size (suc n)) none ∙ min-eq_right some in
+    let one : min size (suc (0 / stride)) ≡ 1 = ap (λ n. min size (suc n)) none
+    ∙ min-eq_right some in
     inr (first, one, some)
 step size stride (suc j) some wide = elim (which (ltb (suc j / stride) size) refl) [
   | inl below ↦
@@ -59,7 +63,11 @@ step size stride (suc j) some wide = elim (which (ltb (suc j / stride) size) ref
         | inr more ↦
             let before : min size (suc (j / stride)) ≡ suc j / stride =
             ap (λ n. min size n) (sym more) ∙ min-eq_right (omega (arith, below)) in
-            inr (digit ∙ sym before, after ∙ ap (λ n. suc n) (sym before), omega (arith, before, below))
+            inr (
+              digit ∙ sym before,
+              after ∙ ap (λ n. suc n) (sym before),
+              omega (arith, before, below),
+            )
       ]
   | inr past ↦
       let near : suc j / stride ≤ suc (j / stride) = elim (next_quotient j stride wide) [
@@ -71,7 +79,8 @@ step size stride (suc j) some wide = elim (which (ltb (suc j / stride) size) ref
       inl (omega (arith, mod-lt (suc j / stride) some, before), after ∙ sym before)
 ]
   where
-    which : (b : Bool) → ltb (suc j / stride) size ≡ b → (suc j / stride < size) ⊎ (size ≤ suc j / stride)
+    which : (b : Bool) → ltb (suc j / stride) size ≡ b → (suc j / stride < size)
+        ⊎ (size ≤ suc j / stride)
     which true is = inl (ltb-true (suc j / stride) size is)
     which false is = inr (ltb-false (suc j / stride) size is)
 
@@ -91,23 +100,25 @@ name_seen names m k below within =
 
 name_next : (names : List (List ℕ)) (m : ℕ) → AreApart names → m < length names
     → with_name (take m names) (get_or names m []) ≡ take (suc m) names
-name_next names m apart within = elim (cases_Bool (list_any (bytes_eq (get_or names m [])) (take m names))) [
-  | inl there ↦
-      let at = any_place (take m names) (get_or names m []) there in
-      let below : at.0 < m =
-      omega (
-        arith,
-        slice_get_within (take m names) at.0 (get_or names m []) at.1,
-        length-take-le m names (let e : m ≤ length names = omega (arith, within) in e),
-      ) in
-      let same : get_or names at.0 [] ≡ get_or names m [] =
-      cc (sym (taken names m at.0 below (omega (arith, within))) ∙ at.1) in
-      let place : at.0 ≡ m = apart at.0 m (get_or names m [])
-      (slice_get-get_or names at.0 [] (omega (arith, below, within)) ∙ ap (λ (n : List ℕ). Some n) same)
-      (slice_get-get_or names m [] within) in
-      absurd (omega (arith, place, below))
-  | inr new ↦ rw new (sym (take-suc names m [] within))
-]
+name_next names m apart within =
+    elim (cases_Bool (list_any (bytes_eq (get_or names m [])) (take m names))) [
+      | inl there ↦
+          let at = any_place (take m names) (get_or names m []) there in
+          let below : at.0 < m =
+          omega (
+            arith,
+            slice_get_within (take m names) at.0 (get_or names m []) at.1,
+            length-take-le m names (let e : m ≤ length names = omega (arith, within) in e),
+          ) in
+          let same : get_or names at.0 [] ≡ get_or names m [] =
+          cc (sym (taken names m at.0 below (omega (arith, within))) ∙ at.1) in
+          let place : at.0 ≡ m = apart at.0 m (get_or names m [])
+          (slice_get-get_or names at.0 [] (omega (arith, below, within))
+          ∙ ap (λ (n : List ℕ). Some n) same)
+          (slice_get-get_or names m [] within) in
+          absurd (omega (arith, place, below))
+      | inr new ↦ rw new (sym (take-suc names m [] within))
+    ]
 
 -- the levels of a factor after one combination more
 pub level_more : (names : List (List ℕ)) (stride k : ℕ) → AreApart names → 0 < length names

@@ -53,7 +53,8 @@ unfolding strip_bom
 other_three b c d rest other = rw other refl
 
 -- a text begins with these three where its first three bytes are these
-mark_test : (b c d : ℕ) → starts_with nat_eq (b ∷ c ∷ d ∷ []) order_mark ≡ false → is_bom b c d ≡ false
+mark_test : (b c d : ℕ) → starts_with nat_eq (b ∷ c ∷ d ∷ []) order_mark ≡ false
+    → is_bom b c d ≡ false
 mark_test b c d other = elim (cases_Bool (b == 0xEF)) [
   | inr no_b ↦ rw no_b refl
   | inl is_b ↦ elim (cases_Bool (c == 0xBB)) [

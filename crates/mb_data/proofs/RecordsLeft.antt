@@ -44,7 +44,8 @@ nothing_left (suc n) = refl
 after_one : (n : ℕ) (text : List ℕ) (read : Read) → length text < suc n → Shortens text read
     → ((state : State) (rest : List ℕ) → length rest < n
     → records_from default_config n state rest ≡ records_from default_config (suc n) state rest)
-    → records_from default_config n read.1 read.2 ≡ records_from default_config (suc n) read.1 read.2
+    → records_from default_config n read.1 read.2 ≡ records_from default_config
+    (suc n) read.1 read.2
 after_one n text read less (inl shorter) more = more read.1 read.2 (omega (arith, less, shorter))
 after_one n text read less (inr ended) more =
     rw (ended.0, ended.1) (nothing_left n ∙ sym (nothing_left (suc n)))

@@ -64,8 +64,10 @@ first_counted : (row : Row) (rows : List Row) (names : List (List ℕ))
     → counted (entry_in (row ∷ rows) names)
     ≤ cond (same_levels row.levels names) (counted row.entry) 0 + counted (entry_in rows names)
 first_counted row rows names = elim (cases_Bool (same_levels row.levels names)) [
-  | inl same ↦ rw same (let e : counted row.entry ≤ counted row.entry + counted (entry_in rows names) = omega arith in e)
-  | inr other ↦ rw other (let e : counted (entry_in rows names) ≤ 0 + counted (entry_in rows names) = omega arith in e)
+  | inl same ↦ rw same (let e : counted row.entry ≤ counted row.entry
+      + counted (entry_in rows names) = omega arith in e)
+  | inr other ↦ rw other (let e : counted (entry_in rows names)
+      ≤ 0 + counted (entry_in rows names) = omega arith in e)
 ]
 
 -- names that differ get no more than the rows have
@@ -144,5 +146,6 @@ one_fits levels rows n total entries apart below are is =
     let so_far : total ≡ sum_to (λ k. counted (entry_in rows (names k))) n =
     is ∙ ap (λ list. sum (counts list)) are ∙ first_sum (λ k. entry_in rows (names k)) n in
     let whole = rows_counted rows names (suc n) (λ i j below_i below_j.
-    names_differ levels i j apart (omega (arith, below, below_i)) (omega (arith, below, below_j))) in
+    names_differ levels i j apart (omega (arith, below, below_i))
+    (omega (arith, below, below_j))) in
     omega (arith, so_far, whole)

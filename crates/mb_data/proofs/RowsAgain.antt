@@ -86,7 +86,8 @@ entry_found table (suc n) k is within below =
           ∙ entry_found table n k is (omega (arith, within)) earlier
       | inr last ↦
           let same : n ≡ k = omega (arith, last, below) in
-          ap (λ m. entry_by_rows (rows_to table n ++ row_in table m ∷ []) (row_in table k).levels) same
+          ap (λ m. entry_by_rows (rows_to table n ++ row_in table m ∷ [])
+          (row_in table k).levels) same
           ∙ entry_added (rows_to table n) (row_in table k)
           (none_earlier table n k is (omega (arith, within, below)) (omega (arith, same)))
     ]
@@ -115,7 +116,8 @@ rows_total table (suc n) =
 
 -- a sum of fewer values is no more
 fewer : (f : ℕ → ℕ) (n m : ℕ) → n ≤ m → sum_to f n ≤ sum_to f m
-fewer f n zero less = let none : n ≡ 0 = omega (arith, less) in rw none (let e : 0 ≤ 0 = omega arith in e)
+fewer f n zero less = let none : n ≡ 0 = omega (arith, less) in
+    rw none (let e : 0 ≤ 0 = omega arith in e)
 fewer f n (suc m) less = elim (up_to n m less) [
   | inl before ↦ omega (arith, fewer f n m before)
   | inr same ↦ rw same (let e : sum_to f (suc m) ≤ sum_to f (suc m) = omega arith in e)
@@ -132,7 +134,14 @@ total_small table n is within =
     let all : sum (counts table.entries) ≡ sum_to f (combinations (sizes table.levels)) =
     ap (λ list. sum (counts list)) (entries_are table is)
     ∙ first_sum (λ k. get_or table.entries k StructuralZero) (combinations (sizes table.levels)) in
-    omega (arith, rows_total table n, fewer f n (combinations (sizes table.levels)) within, all, is.total)
+    omega (
+      arith,
+      rows_total table n,
+      fewer f n (combinations (sizes table.levels))
+          within,
+      all,
+      is.total,
+    )
 
 -- the count of one entry is at most 1,000,000
 count_small : (table : CrossTable) (k : ℕ) → IsCrossTable table
@@ -153,10 +162,13 @@ one_added table number k is within =
     let long : length names ≡ length table.factors = each_named table.levels k ∙ is.each_factor in
     let texts = named_texts table.levels (combination (sizes table.levels) k)
     (λ j. (is.apart j, is.texts j)) in
-    let row = row_again table.factors names entry number long texts (count_small table k is within) in
+    let row = row_again table.factors names entry number long texts
+    (count_small table k is within) in
     let new : is_some (entry_by_rows (rows_to table k) names) ≡ false =
-    ap (λ (e : Option Entry). is_some e) (none_earlier table k k is within (let e : k ≤ k = omega arith in e)) in
-    let next : rows_to table k ++ row_in table k ∷ [] ≡ rows_to table (suc k) = sym (rows_next table k) in
+    ap (λ (e : Option Entry). is_some e) (none_earlier table k k is within
+    (let e : k ≤ k = omega arith in e)) in
+    let next : rows_to table k ++ row_in table k ∷ [] ≡ rows_to table (suc k) =
+    sym (rows_next table k) in
     let small : nat_le (total_of (rows_to table k ++ row_in table k ∷ [])) 1000000 ≡ true =
     ap (λ rows. nat_le (total_of rows) 1000000) next
     ∙ le-leb (total_of (rows_to table (suc k))) 1000000 (total_small table (suc k) is within) in

@@ -39,11 +39,13 @@ apart_more names name apart new i j other at_i at_j = elim (place_more names i n
   | inl before_i ↦ elim (place_more names j name other at_j) [
     | inl before_j ↦ apart i j other before_i before_j
     | inr last_j ↦
-        absurd (cc (sym (place_any names i name (before_i ∙ ap (λ (n : List ℕ). Some n) (sym last_j.1))) ∙ new))
+        absurd (cc (sym (place_any names i name
+        (before_i ∙ ap (λ (n : List ℕ). Some n) (sym last_j.1))) ∙ new))
   ]
   | inr last_i ↦ elim (place_more names j name other at_j) [
     | inl before_j ↦
-        absurd (cc (sym (place_any names j name (before_j ∙ ap (λ (n : List ℕ). Some n) (sym last_i.1))) ∙ new))
+        absurd (cc (sym (place_any names j name
+        (before_j ∙ ap (λ (n : List ℕ). Some n) (sym last_i.1))) ∙ new))
     | inr last_j ↦ last_i.0 ∙ sym last_j.0
   ]
 ]

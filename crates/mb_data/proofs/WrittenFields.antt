@@ -36,7 +36,8 @@ back : (text : List ℕ) → NoSpace text → NoSpace (reverse text)
 back text spaceless k within =
     let long = length-reverse text in
     let inside : k < length text = omega (arith, within, long) in
-    let at : get_or (reverse text) k 0 ≡ get_or text (length text - 1 - k) 0 = get_or-reverse text k 0 inside in
+    let at : get_or (reverse text) k 0 ≡ get_or text (length text - 1 - k) 0 =
+    get_or-reverse text k 0 inside in
     omega (arith, at, spaceless (length text - 1 - k) (omega (arith, inside)))
 
 -- backwards twice
@@ -49,7 +50,8 @@ twice text =
     get_or-reverse (reverse text) k 0 (omega (arith, within, two))
     ∙ get_or-reverse text (length (reverse text) - 1 - k) 0 (omega (arith, within, one, two))
     ∙ ap (λ n. get_or text n 0)
-    (let e : length text - 1 - (length (reverse text) - 1 - k) ≡ k = omega (arith, within, one, two) in e))
+    (let e : length text - 1 - (length (reverse text) - 1 - k)
+    ≡ k = omega (arith, within, one, two) in e))
 
 -- nor at their end
 none_around : (text : List ℕ) → NoSpace text → NoSpace (reverse text) → trimmed text ≡ text
@@ -64,19 +66,23 @@ digits n small k within =
     (digit_range (get_or (decimal n) k 0) ((decimal_form n small).each k 0 within)).0
 
 -- the entry of its own text
-pub entry_again : (entry : Entry) → counted entry < 10 ^ 64 → entry_of (entry_text entry) ≡ Some entry
+pub entry_again : (entry : Entry) → counted entry < 10 ^ 64
+    → entry_of (entry_text entry) ≡ Some entry
 unfolding after_spaces before_spaces
 entry_again StructuralZero small = refl
 entry_again (Count n) small =
-    let same : trimmed (decimal n) ≡ decimal n = none_around (decimal n) (digits n small) (back (decimal n) (digits n small)) in
-    let other : bytes_eq (decimal n) (42 ∷ []) ≡ false = elim (cases_Bool (bytes_eq (decimal n) (42 ∷ []))) [
+    let same : trimmed (decimal n) ≡ decimal n = none_around (decimal n) (digits n small)
+    (back (decimal n) (digits n small)) in
+    let other : bytes_eq (decimal n) (42 ∷ []) ≡ false =
+    elim (cases_Bool (bytes_eq (decimal n) (42 ∷ []))) [
       | inl is ↦
           let star : get_or (decimal n) 0 0 ≡ 42 =
           ap (λ (t : List ℕ). get_or t 0 0) ((bytes_eq-Decides (decimal n) (42 ∷ [])).0 is) in
           absurd (omega (arith, star, first_digit n small))
       | inr differs ↦ differs
     ] in
-    ap entry_at_core same ∙ rw other (ap (option_map (λ (c : ℕ). count c)) (natural_of-decimal n small))
+    ap entry_at_core same ∙ rw other (ap (option_map (λ (c : ℕ). count c))
+    (natural_of-decimal n small))
   where
     count : ℕ → Entry
     count c = Count c

@@ -53,7 +53,8 @@ later (size ∷ list) zero within some = (
   rest_there size (combinations list) 0 some,
 )
 later (size ∷ list) (suc f) within some =
-    let rest = later list f (omega (arith, within)) (rest_there size (combinations list) 0 some) in (
+    let rest = later list f (omega (arith, within))
+    (rest_there size (combinations list) 0 some) in (
       many size (combinations list) (get_or list f 0 * combinations (drop (suc f) list))
           (first_there size (combinations list) 0 some) rest.0,
       rest.1,
@@ -92,9 +93,14 @@ levels_seen table (suc n) f is within inside =
     let list = sizes table.levels in
     let below : f < length list = omega (arith, inside, length-map table.levels length) in
     let size : get_or list f 0 ≡ length names = get_or-map length table.levels f [] 0 inside in
-    let some : 0 < length names = omega (arith, size, size_there list n f (omega (arith, within)) below) in
+    let some : 0 < length names = omega (
+      arith,
+      size,
+      size_there list n f (omega (arith, within)) below,
+    ) in
     let wide : 0 < stride table f = (later list f below (omega (arith, within))).1 in
-    let there : f < length (after table n) = omega (arith, inside, after_long table n, is.each_factor) in
+    let there : f < length (after table n) =
+    omega (arith, inside, after_long table n, is.each_factor) in
     ap (λ levels. get_or levels f []) (after_next table n)
     ∙ get_or-map-range_with_len
     (λ k. with_name (get_or (after table n) k []) (get_or (row_in table n).levels k [])) 0
@@ -125,7 +131,8 @@ levels_again table is some =
     (λ f below.
     let names = get_or table.levels f [] in
     let list = sizes table.levels in
-    let inside : f < length table.levels = omega (arith, below, after_long table all, is.each_factor) in
+    let inside : f < length table.levels =
+    omega (arith, below, after_long table all, is.each_factor) in
     let under : f < length list = omega (arith, inside, length-map table.levels length) in
     let size : get_or list f 0 ≡ length names = get_or-map length table.levels f [] 0 inside in
     let parts = later list f under some in

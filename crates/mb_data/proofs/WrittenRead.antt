@@ -1,11 +1,18 @@
 -- What is written is read back as the same dataset.
-use Rattle.std.proofs.Common.{Bool, List, Ok, [], ap, append_assoc, arith, false, length, map, nat_eq, nat_le, not, refl, sym, true, ℕ, ◌+◌, ◌++◌, ◌==◌, ◌∙◌, ◌∷◌, ◌≡◌, ◌≤◌}
-use Rattle.std.proofs.lemmas.Bool.{le-leb, ne_eqb}
+use Rattle.std.proofs.Common.{List, Ok, [], ap, append_assoc, arith, false, length, map, nat_eq, nat_le, not, refl, sym, true, ℕ, ◌+◌, ◌++◌, ◌==◌, ◌∙◌, ◌∷◌, ◌≡◌, ◌≤◌}
+use Rattle.std.proofs.lemmas.Bool.{le-leb, ne_eqb, not-true}
 use Rattle.std.specs.List.{list_all, range_with_len, starts_with}
 use Rattle.std.specs.Str.{is_utf8}
 use Rattle.csv.specs.Reading.{default_config, records_from, strip_bom}
 use Rattle.csv.specs.Writing.{default_writer, field_text, read_back, row_text}
 use Rattle.csv.specs.declared.parser.State.TheVariants as st
+use Rattle.mb_data.proofs.HeaderAgain.{texts_passed}
+use Rattle.mb_data.proofs.KeyLaws.{and_left, and_right}
+use Rattle.mb_data.proofs.ReadBack.{few_rows, field_start, text_of, turns}
+use Rattle.mb_data.proofs.ReadTexts.{header_read, rows_said}
+use Rattle.mb_data.proofs.RowsAgain.{columns_in, entries_again, rows_again, rows_to}
+use Rattle.mb_data.proofs.WrittenLevels.{levels_again}
+use Rattle.mb_data.proofs.WrittenRows.{row_whole}
 use Rattle.mb_data.specs.CrossTable.{CrossTable, combinations, counts, sizes}
 use Rattle.mb_data.specs.Dataset.{IsCrossTable}
 use Rattle.mb_data.specs.DatasetText.{dataset_of, entries_of, table_of, with_cells}
@@ -14,24 +21,13 @@ use Rattle.mb_data.specs.Records.{records_of}
 use Rattle.mb_data.specs.Written.{record_of, written, written_records}
 use Rattle.mb_data.specs.declared.entry.Entry.{Entry}
 use Rattle.mb_data.specs.loops.Commas.{with_commas}
-use Rattle.mb_data.proofs.HeaderAgain.{texts_passed}
-use Rattle.mb_data.proofs.KeyLaws.{and_left, and_right}
-use Rattle.mb_data.proofs.ReadBack.{few_rows, field_start, text_of, turns}
-use Rattle.mb_data.proofs.ReadTexts.{header_read, rows_said}
-use Rattle.mb_data.proofs.RowsAgain.{columns_in, entries_again, rows_again, rows_to}
-use Rattle.mb_data.proofs.WrittenLevels.{levels_again}
-use Rattle.mb_data.proofs.WrittenRows.{row_whole}
 
 -- a header field doesn't begin with a byte order mark
 no_mark : (field : List ℕ) → is_header_field field ≡ true
     → starts_with nat_eq field order_mark ≡ false
 no_mark field is =
-    flip (starts_with nat_eq field order_mark)
+    not-true (starts_with nat_eq field order_mark)
     (and_right (is_utf8 field) (not (starts_with nat_eq field order_mark)) is)
-  where
-    flip : (b : Bool) → not b ≡ true → b ≡ false
-    flip true is = absurd (cc is)
-    flip false is = refl
 
 -- nor does a written header
 start : (first last : List ℕ) (more : List (List ℕ)) (rest : List ℕ)
@@ -87,16 +83,21 @@ texts_read table is =
     ap (λ text. records_from default_config (length text + 1) st.StartRecord text) same
     ∙ turns (header ∷ rows) (length (written table) + 1) (omega (arith, few_rows (header ∷ rows)))
     ∙ ap (λ (row : List (List ℕ)). row ∷ map read_back rows) (last_back table.factors count_word)
-    ∙ ap (λ rows. header ∷ rows) (rows_back table (range_with_len 0 (combinations (sizes table.levels))))
+    ∙ ap (λ rows. header ∷ rows) (rows_back table
+    (range_with_len 0 (combinations (sizes table.levels))))
 
 -- where there are cells, there are entries
-some_entries : (entries : List Entry) → 1 ≤ length (counts entries) → 1 ≤ length entries
+pub some_entries : (entries : List Entry) → 1 ≤ length (counts entries) → 1 ≤ length entries
 some_entries [] some = absurd (omega (arith, some))
 some_entries (entry ∷ entries) some = omega arith
 
 -- a table with another list of levels or entries
 abbrev with_levels_of : CrossTable → List (List (List ℕ)) → List Entry → CrossTable
-with_levels_of table levels entries = record { factors = table.factors; levels = levels; entries = entries }
+with_levels_of table levels entries = record {
+  factors = table.factors;
+  levels = levels;
+  entries = entries;
+}
 
 -- what is written is read
 pub written_read : (table : CrossTable) → IsCrossTable table → dataset_of (written table) ≡ Ok table
@@ -109,7 +110,8 @@ written_read table is =
     ap (λ levels. with_levels_of table levels (entries_of rows levels)) (levels_again table is some)
     ∙ ap (λ entries. with_levels_of table table.levels entries) (entries_again table is) in
     let cells = length (counts table.entries) in
-    let more : (cells == 0) ≡ false = ne_eqb cells 0 (λ none. absurd (omega (arith, none, is.some_cells))) in
+    let more : (cells == 0) ≡ false = ne_eqb cells 0
+    (λ none. absurd (omega (arith, none, is.some_cells))) in
     let few : nat_le cells 64 ≡ true = le-leb cells 64 is.few_cells in
     header_read (written table) (table.factors ++ count_word ∷ []) left (columns_in table)
     (texts_read table is) is.header

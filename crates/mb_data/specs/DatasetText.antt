@@ -56,7 +56,8 @@ with_row number rows row =
 
 -- the rows with the one of a record, or its fault
 abbrev pub next_rows : Columns → ℕ → List Row → List (List ℕ) → Result (List Row) DataFault
-next_rows columns number rows fields = row_of columns number fields >>= λ row. with_row number rows row
+next_rows columns number rows fields = row_of columns number fields
+    >>= λ row. with_row number rows row
 
 -- the rows of the records from a number on, after earlier rows, or the first fault
 unfoldable pub rows_of : Columns → ℕ → List Row → List (List (List ℕ)) →

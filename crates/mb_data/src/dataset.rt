@@ -37,16 +37,35 @@ impl Model for Dataset {
 
     ghost Value = { CrossTable };
 
-    ghost view = { λ d. record { factors = map string_bytes d.factors.items; levels = d.levels.items; entries = d.entries.items } };
+    ghost view = { λ d. record {
+      factors = map string_bytes d.factors.items;
+      levels =
+          d.levels.items;
+      entries = d.entries.items;
+    } };
 
-    ghost invariant = { λ d. IsDataset (record { factors = map string_bytes d.factors.items; levels = d.levels.items; entries = d.entries.items }) d.cells d.total };
+    ghost invariant = { λ d. IsDataset (record {
+      factors = map string_bytes d.factors.items;
+      levels =
+          d.levels.items;
+      entries = d.entries.items;
+    }) d.cells d.total };
 }
 
 impl Dataset {
     /// The dataset of these parts.
     pub(crate) fn of(factors: Vec<String>, levels: Vec<Levels>, filled: Filled) -> Dataset
-        requires { IsDataset (record { factors = map string_bytes factors.items; levels = levels.items; entries = filled.entries.items }) filled.cells filled.total }
-        ensures { result ≡ record { factors = map string_bytes factors.items; levels = levels.items; entries = filled.entries.items } }
+        requires { IsDataset (record {
+          factors = map string_bytes factors.items;
+          levels =
+              levels.items;
+          entries = filled.entries.items;
+        }) filled.cells filled.total }
+        ensures { result ≡ record {
+          factors = map string_bytes factors.items;
+          levels = levels.items;
+          entries = filled.entries.items;
+        } }
     {
         Dataset {
             factors,
@@ -109,7 +128,8 @@ impl Dataset {
     pub fn level_in(&self, number: usize, factor: usize) -> usize
         requires number { number < combinations (sizes self.now.levels) }
         requires factor { factor < length self.now.factors }
-        ensures level { slice_get (combination (sizes self.now.levels) number) factor ≡ Some result }
+        ensures level { slice_get (combination (sizes self.now.levels) number)
+            factor ≡ Some result }
         ensures within { result < length (slice_index_or self.now.levels factor []) }
     {
         level_of(self.levels.as_slice(), number as u64, factor)

@@ -52,9 +52,11 @@ pub(crate) fn fill(
     rows: &Rows,
     total: u32,
 ) -> Result<Filled, DataFault>
-    requires rows { (list : List Row) × Gathers (length levels.now) list levels.now (entry_at rows.now) total }
+    requires rows { (list : List Row) × Gathers (length levels.now) list levels.now
+        (entry_at rows.now) total }
     requires small { total ≤ 1000000 }
-    ensures { (list : List Row) → Gathers (length levels.now) list levels.now (entry_at rows.now) total →
+    ensures { (list : List Row) → Gathers (length levels.now) list levels.now
+        (entry_at rows.now) total →
         HasFilled list levels.now result }
 {
     let combinations = combinations_of(levels);

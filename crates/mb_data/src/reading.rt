@@ -18,7 +18,8 @@ use std::alloc::Global;
 /// Gathers the rows of the records that are left.
 fn read_rows(alloc: Global, header: &Header, records: Records<'_>) -> Result<Gathered, DataFault>
     requires { length records.left + 2 < 2 ^ 64 }
-    ensures { HasRead (length header.now.factors) result (rows_of header.now 2 [] records.entry.left) }
+    ensures { HasRead (length header.now.factors) result
+        (rows_of header.now 2 [] records.entry.left) }
 {
     let mut gathered = Gathered::new(alloc, header.factors())?;
     let mut left = records;

@@ -9,7 +9,7 @@ use Rattle.mb_certificate.specs.declared.line_fault.Fault.{Fault}
 use Rattle.mb_checker.proofs.ValidCertificates.{valid-markov}
 use Rattle.mb_data.specs.CrossTable.{counts}
 use Rattle.mb_desk.proofs.FiberTests.{is_exact_test, sizes-sum}
-use Rattle.mb_desk.proofs.Fitting.{Fits, bind_ok, or_ok}
+use Rattle.mb_desk.proofs.Fitting.{Fits, or_ok}
 use Rattle.mb_desk.proofs.GenerateInversions.{few_ok, narrow_ok}
 use Rattle.mb_desk.proofs.KeptRecords.{kept_fits, kept_means}
 use Rattle.mb_desk.proofs.LinkedRecords.{found_is, records_linked}
@@ -19,7 +19,7 @@ use Rattle.mb_desk.specs.AnalyseCommand.{analyse_plan, of_one_matrix, of_one_siz
 use Rattle.mb_desk.specs.AnalysisAnswers.{AnswersAnalyse, tested_report}
 use Rattle.mb_desk.specs.Changes.{changed}
 use Rattle.mb_desk.specs.Decision.{Decided}
-use Rattle.mb_desk.specs.ExactTest.{IsExactTest, Numbers, accepted, narrow, numbers_of, tested, within_limit}
+use Rattle.mb_desk.specs.ExactTest.{IsExactTest, Numbers, accepted, narrow, numbers_of, small_enough, tested}
 use Rattle.mb_desk.specs.GenerateCommand.{numbers_refusal}
 use Rattle.mb_desk.specs.Recorded.{kept_plan}
 use Rattle.mb_desk.specs.StoredAnswers.{HasBasis, HasDataset, HasModel, IsKept}
@@ -39,6 +39,7 @@ use Rattle.mb_registry.specs.declared.kinds.Kind.TheVariants.{Analysis, Basis}
 use Rattle.mb_reports.specs.Report.{report_text}
 use Rattle.mb_rings.specs.Ring.{Ring, rings_of}
 use Rattle.mb_tables.specs.Answers.{◌>>=◌}
+use Rattle.mb_text.proofs.RecordSteps.{stepped}
 use Rattle.mb_weights.specs.PValue.{Fraction, exact_p_value}
 use Rattle.mb_weights.specs.Weight.{weight_of}
 
@@ -117,12 +118,12 @@ are_of : (limit : ℕ) (c : Certificate) (measure : Weighting) (observed : List 
     AreOf limit c measure observed numbers
 are_of limit c measure observed numbers e =
     let p = exact_p_value c.matrix measure observed in
-    let a = bind_ok (accepted (first_fault c))
+    let a = stepped (accepted (first_fault c))
     (λ right. tested limit c.matrix measure observed >>= λ fraction.
     Ok (numbers_are c measure observed fraction)) numbers e in
-    let b = bind_ok (tested limit c.matrix measure observed)
+    let b = stepped (tested limit c.matrix measure observed)
     (λ fraction. Ok (numbers_are c measure observed fraction)) numbers a.2 in
-    let t = bind_ok (within_limit limit (fiber_of c.matrix observed)) (λ few. narrow p) b.0 b.1 in
+    let t = stepped (small_enough limit (fiber_of c.matrix observed)) (λ few. narrow p) b.0 b.1 in
     record {
       right = accepted_ok (first_fault c) a.0 a.1;
       few = few_ok limit (length (fiber_of c.matrix observed)) t.0 t.1;
@@ -147,12 +148,13 @@ is_reported : (words : AnalyseWords) (records : Records) (report : List ℕ) →
     reported words records ≡ Ok report → IsReported words records report
 is_reported words records report e =
     let made = λ (numbers : Numbers). report_text (report_of words records numbers) in
-    let a = bind_ok (of_one_matrix words.basis records)
+    let a = stepped (of_one_matrix words.basis records)
     (λ matrix. of_one_size records >>= λ cells. records_tested words.limit records >>= λ numbers.
     Ok (report_text (report_of words records numbers))) report e in
-    let b = bind_ok (of_one_size records) (λ cells. records_tested words.limit records >>= λ numbers.
+    let b = stepped (of_one_size records)
+    (λ cells. records_tested words.limit records >>= λ numbers.
     Ok (report_text (report_of words records numbers))) report a.2 in
-    let t = bind_ok (records_tested words.limit records)
+    let t = stepped (records_tested words.limit records)
     (λ numbers. Ok (report_text (report_of words records numbers))) report b.2 in
     record {
       matrix = (same-decides records.certificate.matrix records.model.matrix).0
@@ -174,7 +176,7 @@ is_reported words records report e =
 pub analyse_fits : (words : AnalyseWords) (w : World) (plan : Plan) →
     analyse_plan words w.rows ≡ Ok plan → Fits plan.change w
 analyse_fits words w plan e =
-    let a = bind_ok (report_named words w.rows) (λ report.
+    let a = stepped (report_named words w.rows) (λ report.
     kept_plan Analysis words.name (Some (Basis, words.basis)) report report w.rows) plan e in
     kept_fits Analysis words.name (Some (Basis, words.basis)) a.0 a.0 w plan a.2
 
@@ -224,7 +226,7 @@ pub record IsAnalysed (words : AnalyseWords) (rows : Rows) (report : List ℕ) :
 pub is_analysed : (words : AnalyseWords) (rows : Rows) (report : List ℕ) →
     report_named words rows ≡ Ok report → IsAnalysed words rows report
 is_analysed words rows report e =
-    let b = bind_ok (records_named words.basis rows) (reported words) report e in
+    let b = stepped (records_named words.basis rows) (reported words) report e in
     let records = b.0 in
     let c = records.certificate in
     let model = records.model in
@@ -257,7 +259,7 @@ pub analyse_means : (words : AnalyseWords) (w : World) (plan : Plan) →
     analyse_plan words w.rows ≡ Ok plan →
     AnswersAnalyse words w.rows (changed plan.change w).rows plan.answer
 analyse_means words w plan e =
-    let a = bind_ok (report_named words w.rows) (λ report.
+    let a = stepped (report_named words w.rows) (λ report.
     kept_plan Analysis words.name (Some (Basis, words.basis)) report report w.rows) plan e in
     let is = is_analysed words w.rows a.0 a.1 in
     let records = is.records in

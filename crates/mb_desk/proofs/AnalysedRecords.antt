@@ -49,7 +49,8 @@ module _ (before between after : Option Rows) (n m k : ℕ) (name text model : L
       DoesRows {A = List ℕ × ModelValue × CrossTable} between after m k (Err stop) (modelled text) →
       DoesRows {A = Records} before after n k (Err stop) (records_named name)
   model-stops stop second =
-      goes_rows before between after n m k (model, certificate) (Err stop) (found (basis_named name))
+      goes_rows before between after n m k (model, certificate) (Err stop)
+      (found (basis_named name))
       (λ proved rows. modelled proved.0 rows >>= λ parts. Ok (of_parts proved parts)) first
       (stops_rows between after m k stop (modelled model)
       (λ rows parts. Ok (of_parts (model, certificate) parts))

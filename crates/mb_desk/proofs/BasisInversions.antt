@@ -5,12 +5,12 @@ use Rattle.mb_certificate.specs.Valid.{IsValid}
 use Rattle.mb_completion.proofs.Births.{births-valid}
 use Rattle.mb_completion.proofs.ComputedRuns.{runs-computed}
 use Rattle.mb_completion.proofs.OneMade.{run_certified}
-use Rattle.mb_completion.specs.CertificateOf.{certificate_of_basis, certificate_of_run}
 use Rattle.mb_completion.specs.Basis.{IsReducedBasis}
+use Rattle.mb_completion.specs.CertificateOf.{certificate_of_basis, certificate_of_run}
 use Rattle.mb_completion.specs.Outcome.{outcome_of}
 use Rattle.mb_completion.specs.Run.{Finished, Outcome, RunEnds, TooHeavy, Unfinished}
 use Rattle.mb_completion.specs.Start.{births_of}
-use Rattle.mb_desk.proofs.Fitting.{Fits, bind_ok}
+use Rattle.mb_desk.proofs.Fitting.{Fits}
 use Rattle.mb_desk.proofs.KeptRecords.{kept_as_ok, kept_fits, kept_means}
 use Rattle.mb_desk.proofs.StoredInversions.{has_model}
 use Rattle.mb_desk.specs.AnalysisAnswers.{AnswersBasis}
@@ -33,6 +33,7 @@ use Rattle.mb_registry.proofs.RecordTexts.{model_back}
 use Rattle.mb_registry.specs.Bodies.{basis_text, model_body, model_record}
 use Rattle.mb_registry.specs.Looking.{model_named}
 use Rattle.mb_registry.specs.declared.kinds.Kind.TheVariants.{Basis, Model}
+use Rattle.mb_text.proofs.RecordSteps.{stepped}
 
 -- a model that was found meets the rules of models
 pub model_sound : (rows : Rows) (name dataset : List ℕ) (model : ModelValue) →
@@ -84,7 +85,7 @@ certified matrix order pairs final looks design run =
 pub basis_fits : (words : BasisWords) (w : World) (plan : Plan) →
     basis_plan words w.rows ≡ Ok plan → Fits plan.change w
 basis_fits words w plan e =
-    let a = bind_ok (completed_named words w.rows) (λ c.
+    let a = stepped (completed_named words w.rows) (λ c.
     kept_plan Basis words.name (Some (Model, words.model)) (basis_text words.model c.certificate)
     (completion_lines c) w.rows) plan e in
     kept_fits Basis words.name (Some (Model, words.model))
@@ -103,7 +104,7 @@ pub is_completed : (words : BasisWords) (rows : Rows) (completion : Completion) 
     completed_named words rows ≡ Ok completion → IsCompleted words rows completion
 unfolding completed
 is_completed words rows completion e =
-    let b = bind_ok (found (model_named words.model) rows)
+    let b = stepped (found (model_named words.model) rows)
     (λ model. completed model.1.matrix words.order words.looks) completion e in
     let model = (b.0).1 in
     let design = (model_sound rows words.model (b.0).0 model b.1).design in
@@ -127,7 +128,7 @@ pub basis_means : (words : BasisWords) (w : World) (plan : Plan) →
     basis_plan words w.rows ≡ Ok plan →
     AnswersBasis words w.rows (changed plan.change w).rows plan.answer
 basis_means words w plan e =
-    let a = bind_ok (completed_named words w.rows) (λ c.
+    let a = stepped (completed_named words w.rows) (λ c.
     kept_plan Basis words.name (Some (Model, words.model)) (basis_text words.model c.certificate)
     (completion_lines c) w.rows) plan e in
     let is = is_completed words w.rows a.0 a.1 in

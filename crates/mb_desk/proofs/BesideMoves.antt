@@ -1,11 +1,12 @@
 -- What is answered of moves beside a certificate is what is decided of them.
-use Rattle.std.proofs.Common.{All, Bool, Err, List, None, Ok, Option, Result, Some, [], ap, arith, cond, false, inl, inr, length, map, nat_eq, nat_lt, negsuc, pos, refl, slice_get, subst, suc, sym, true, zero, ℕ, ℤ, ◌+◌, ◌-◌, ◌<◌, ◌∙◌, ◌∷◌, ◌≡◌, ◌≢◌, ◌≤◌, ◌⊎◌}
+use Rattle.std.proofs.Common.{All, Bool, Err, List, None, Ok, Option, Result, Some, [], ap, arith, cond, false, inl, inr, length, map, nat_eq, nat_lt, refl, slice_get, subst, suc, sym, true, zero, ℕ, ℤ, ◌+◌, ◌-◌, ◌<◌, ◌∙◌, ◌∷◌, ◌≡◌, ◌≢◌, ◌≤◌, ◌⊎◌}
 use Rattle.std.proofs.lemmas.Bool.Decides.{nat_tests}
 use Rattle.std.specs.List.{filter, range_with_len}
 use Rattle.mb_certificate.proofs.LineFaults.{all-at, at-all, move-none, none-move}
+use Rattle.mb_certificate.proofs.Walking.{chain-walk, moved-apart, walk-joined}
 use Rattle.mb_certificate.specs.Certificate.{AreParts, Certificate, Path}
 use Rattle.mb_certificate.specs.FirstFault.{move_fault}
-use Rattle.mb_certificate.specs.Valid.{IsValid, MovesBy, Walks, free_rules, is_free}
+use Rattle.mb_certificate.specs.Valid.{IsValid, Walks, free_rules, is_free}
 use Rattle.mb_certificate.specs.declared.line_fault.Reason.{Reason}
 use Rattle.mb_desk.proofs.LeastPathLaws.{least-found, path-walks}
 use Rattle.mb_desk.specs.Decision.{Decided, stop_cause}
@@ -30,45 +31,8 @@ use Rattle.mb_rings.specs.Ring.{reached, rings_of, rings_to, tables_of}
 use Rattle.mb_rings.specs.ShortestPath.{IsLeastPath}
 use Rattle.mb_tables.proofs.ListLaws.{In-filter_only, In-map, place-in, range-only}
 use Rattle.mb_tables.specs.Answers.{Gives, ◌>>=◌}
-use Rattle.mb_tables.specs.Chain.{Chain, Joined}
 use Rattle.mb_tables.specs.Lists.{In}
 use Rattle.mb_tables.specs.Rows.{Rows}
-use Rattle.mb_tables.specs.Step.{OneApart}
-
--- ---- walks and chains
-
--- a signed number leads one step on
-step-apart : (moves : List (List ℤ)) (step : ℤ) (u v : List ℕ) → MovesBy moves step u v →
-    OneApart moves u v
-step-apart moves (pos zero) u v h = absurd h
-step-apart moves (pos (suc k)) u v h = (k, h.0, h.1, inl h.2)
-step-apart moves (negsuc k) u v h = (k, h.0, h.1, inr h.2)
-
--- and each step is by some signed number
-apart-step : (moves : List (List ℤ)) (u v : List ℕ) → OneApart moves u v →
-    (step : ℤ) × MovesBy moves step u v
-apart-step moves u v h =
-    elim h.3 [
-      | inl a ↦ (pos (suc h.0), (h.1, h.2, a))
-      | inr a ↦ (negsuc h.0, (h.1, h.2, a))
-    ]
-
--- a walk joins its ends
-pub walk-joined : (moves : List (List ℤ)) (q : List ℤ) (u v : List ℕ) → Walks moves q u v →
-    Joined moves u v
-unfolding Walks Chain
-walk-joined moves [] u v h = ([], h)
-walk-joined moves (step ∷ q) u v h =
-    let r = walk-joined moves q h.0 v h.2 in (h.0 ∷ r.0, (step-apart moves step u h.0 h.1, r.1))
-
--- a chain is that of a walk as long
-chain-walk : (moves : List (List ℤ)) (u : List ℕ) (tables : List (List ℕ)) (v : List ℕ) →
-    Chain moves u tables v → (q : List ℤ) × (length q ≡ length tables) × Walks moves q u v
-unfolding Walks Chain
-chain-walk moves u [] v h = ([], refl, h)
-chain-walk moves u (next ∷ tables) v h =
-    let s = apart-step moves u next h.0 in
-    let r = chain-walk moves next tables v h.1 in (s.0 ∷ r.0, ap suc r.1, (next, s.1, r.2))
 
 -- ---- the tables near a start
 
@@ -87,7 +51,7 @@ module _ (matrix : Design) (sound : IsDesign matrix) (moves : List (List ℤ))
       let e : k ≡ k + 0 = omega arith in
       subst (λ n. In v (near n)) e (subst (λ w. In w (near k)) h i)
   walk-near k (step ∷ q) u v f i h =
-      let apart = step-apart moves step u h.0 h.1 in
+      let apart = moved-apart moves step u h.0 h.1 in
       let j = fiber-closed matrix sound start moves each u h.0 f apart in
       let e : suc k + length q ≡ k + suc (length q) = omega arith in
       subst (λ n. In v (near n)) e
@@ -337,7 +301,8 @@ moves-stop matrix row (z ∷ moves) zero move there other before =
     by : (o : Option Reason) → move_fault matrix z ≡ o →
         moved_on row o (all_moves matrix (suc row) moves) ≡ Err (refusals.NotAMove (row + 0))
     by None e =
-        let same : z ≡ move = cc in absurd (other (subst (IsMove matrix) same (move-none matrix z e)))
+        let same : z ≡ move = cc in
+        absurd (other (subst (IsMove matrix) same (move-none matrix z e)))
     by (Some reason) e =
         let f : row ≡ row + 0 = omega arith in ap (λ n. Err (refusals.NotAMove n)) f
 moves-stop matrix row (z ∷ moves) (suc place) move there other before =
@@ -389,7 +354,8 @@ module _ (limit : ℕ) (c : Certificate) (parts : AreParts c) (valid : IsValid c
       )))
 
   -- what is answered is what is decided
-  pub beside-gives : (answer : Result Certificate BesideFault) → BesideAnswers limit c moves answer →
+  pub beside-gives : (answer : Result Certificate BesideFault) →
+      BesideAnswers limit c moves answer →
       Gives (λ fault. stop_cause (beside_stop c moves fault)) (λ (x : Certificate). x) answer
       (beside_of limit c moves)
   beside-gives (Ok new) h =
@@ -418,7 +384,8 @@ module _ (limit : ℕ) (c : Certificate) (parts : AreParts c) (valid : IsValid c
       free-within j i =
           let r =
           range-only 0 (length c.rules) j
-          (In-filter_only (is_free c.matrix.rows c.rules) j (range_with_len 0 (length c.rules)) i) in
+          (In-filter_only (is_free c.matrix.rows c.rules) j
+          (range_with_len 0 (length c.rules)) i) in
           let l = r.1 in omega arith
   beside-gives (Err faults.WidthDiffers) h =
       let t = eq-false moves.width (length c.matrix.columns) h in

@@ -8,13 +8,14 @@ use Rattle.mb_certificate.specs.CertificateText.{certificate_of}
 use Rattle.mb_certificate.specs.FirstFault.{first_fault}
 use Rattle.mb_certificate.specs.declared.line_fault.Fault.{Fault}
 use Rattle.mb_checker.proofs.ValidCertificates.{valid-markov}
-use Rattle.mb_desk.proofs.Fitting.{bind_ok, or_ok}
+use Rattle.mb_desk.proofs.Fitting.{or_ok}
 use Rattle.mb_desk.proofs.Inversions.{body_there}
 use Rattle.mb_desk.specs.CheckCommand.{certified, checked, found, joins_line, judged, judged_by}
 use Rattle.mb_desk.specs.Headline.{AnswersCheck}
 use Rattle.mb_desk.specs.Inputs.{body_of}
 use Rattle.mb_desk.specs.declared.refusals.Refusal.TheVariants as refusals
 use Rattle.mb_outside.specs.Files.{Held}
+use Rattle.mb_text.proofs.RecordSteps.{stepped}
 
 -- what is judged right is what it was, and no line of it is wrong
 pub judged_ok : (c kept : Certificate) (first : Option Fault) → judged_by c first ≡ Ok kept →
@@ -26,8 +27,8 @@ judged_ok c kept (Some fault) e = absurd (cc)
 pub checks : (held : Held) (name : List ℕ) (c : Certificate) → checked name held ≡ Ok c →
     AnswersCheck held name (joins_line c)
 checks held name c e =
-    let b = bind_ok (found name held) judged c e in
-    let a = bind_ok (body_of 1 (get held name)) (certified 1) b.0 b.1 in
+    let b = stepped (found name held) judged c e in
+    let a = stepped (body_of 1 (get held name)) (certified 1) b.0 b.1 in
     let right = judged_ok b.0 c (first_fault b.0) b.2 in
     let read = or_ok (refusals.Text 1) (certificate_of a.0) b.0 a.2 in
     let spelled = certificate_is a.0 b.0 read in

@@ -3,7 +3,7 @@ use Rattle.std.proofs.Common.{Ok, subst, ◌≡◌}
 use Rattle.mb_desk.proofs.AnalyseInversions.{analyse_fits, analyse_means}
 use Rattle.mb_desk.proofs.BasisInversions.{basis_fits, basis_means}
 use Rattle.mb_desk.proofs.CheckInversions.{checks}
-use Rattle.mb_desk.proofs.Fitting.{Fits, answers_fit, bind_ok, plan_text}
+use Rattle.mb_desk.proofs.Fitting.{Fits, answers_fit, plan_text}
 use Rattle.mb_desk.proofs.GenerateInversions.{tests}
 use Rattle.mb_desk.proofs.ImportInversions.{import_fits, import_means}
 use Rattle.mb_desk.proofs.Inversions.{counts_moves}
@@ -22,21 +22,24 @@ use Rattle.mb_desk.specs.declared.plans.Plan.{Plan}
 use Rattle.mb_desk.specs.declared.requests.Request.{Request}
 use Rattle.mb_desk.specs.declared.requests.Request.TheVariants as requests
 use Rattle.mb_reports.specs.RingTable.{ring_table_of}
+use Rattle.mb_text.proofs.RecordSteps.{stepped}
 
 -- every plan fits
 pub plan_fits : (request : Request) (w : World) (answer : Plan) →
     plan_of request w ≡ Ok answer → Fits answer.change w
 plan_fits (requests.Moves words) w answer e =
-    let a = bind_ok (moves_count words w.files) (λ count. Ok (answers (moves_line count))) answer e in
+    let a = stepped (moves_count words w.files)
+    (λ count. Ok (answers (moves_line count))) answer e in
     answers_fit w (answers (moves_line a.0)) answer (λ misses. misses) a.2
 plan_fits (requests.Reach words) w answer e =
-    let a = bind_ok (reach_rings words w.files) (λ rings. Ok (answers (ring_table_of rings))) answer e in
+    let a = stepped (reach_rings words w.files)
+    (λ rings. Ok (answers (ring_table_of rings))) answer e in
     answers_fit w (answers (ring_table_of a.0)) answer (λ misses. misses) a.2
 plan_fits (requests.Check name) w answer e =
-    let a = bind_ok (checked name w.files) (λ c. Ok (answers (joins_line c))) answer e in
+    let a = stepped (checked name w.files) (λ c. Ok (answers (joins_line c))) answer e in
     answers_fit w (answers (joins_line a.0)) answer (λ misses. misses) a.2
 plan_fits (requests.Generate seed workers) w answer e =
-    let a = bind_ok (generated seed) (λ p. Ok (answers (generated_lines seed p))) answer e in
+    let a = stepped (generated seed) (λ p. Ok (answers (generated_lines seed p))) answer e in
     answers_fit w (answers (generated_lines seed a.0)) answer (λ misses. misses) a.2
 plan_fits (requests.Dataset name file) w answer e = dataset_fits name file w answer e
 plan_fits (requests.Model words) w answer e = model_fits words w answer e
@@ -52,19 +55,20 @@ plan_fits (requests.Remove kind name) w answer e = remove_fits kind name w answe
 pub plan_means : (request : Request) (w : World) (plan : Plan) → plan_of request w ≡ Ok plan →
     Answers request w (changed plan.change w) plan.answer
 plan_means (requests.Moves words) w plan e =
-    let a = bind_ok (moves_count words w.files) (λ count. Ok (answers (moves_line count))) plan e in
+    let a = stepped (moves_count words w.files) (λ count. Ok (answers (moves_line count))) plan e in
     subst (λ text. AnswersMoves w.files words text) (plan_text (moves_line a.0) plan a.2)
     (counts_moves w.files words a.0 a.1)
 plan_means (requests.Reach words) w plan e =
-    let a = bind_ok (reach_rings words w.files) (λ rings. Ok (answers (ring_table_of rings))) plan e in
+    let a = stepped (reach_rings words w.files)
+    (λ rings. Ok (answers (ring_table_of rings))) plan e in
     subst (λ text. AnswersReach w.files words text) (plan_text (ring_table_of a.0) plan a.2)
     (finds_rings w.files words a.0 a.1)
 plan_means (requests.Check name) w plan e =
-    let a = bind_ok (checked name w.files) (λ c. Ok (answers (joins_line c))) plan e in
+    let a = stepped (checked name w.files) (λ c. Ok (answers (joins_line c))) plan e in
     subst (λ text. AnswersCheck w.files name text) (plan_text (joins_line a.0) plan a.2)
     (checks w.files name a.0 a.1)
 plan_means (requests.Generate seed workers) w plan e =
-    let a = bind_ok (generated seed) (λ p. Ok (answers (generated_lines seed p))) plan e in
+    let a = stepped (generated seed) (λ p. Ok (answers (generated_lines seed p))) plan e in
     subst (λ text. AnswersGenerate seed text) (plan_text (generated_lines seed a.0) plan a.2)
     (tests seed a.0 a.1)
 plan_means (requests.Dataset name file) w plan e = dataset_means name file w plan e

@@ -1,5 +1,5 @@
--- The tables that a Markov basis reaches are those of the fiber, each once: so what is summed over the
--- rings is summed over the fiber, and the rings are those of an exact test.
+-- The tables that a Markov basis reaches are those of the fiber, each once: so what is summed over
+-- the rings is summed over the fiber, and the rings are those of an exact test.
 use Rattle.std.proofs.Common.{All, Bool, Err, Global, List, Ok, Result, Vec, [], ap, cond, false, get_or, length, map, nat_lt, refl, subst, sum, sym, true, ℕ, ℤ, ◌++◌, ◌+◌, ◌<◌, ◌^◌, ◌∙◌, ◌∷◌, ◌≡◌, ◌≤◌, ◌↔◌}
 use Rattle.std.proofs.lemmas.Bool.{le-ltb, lt-ltb}
 use Rattle.std.proofs.lemmas.List.Concat.{length-flat_map}
@@ -10,7 +10,7 @@ use Rattle.std.specs.List.Sorted.{IsPermutation}
 use Rattle.mb_certificate.specs.Certificate.{AreParts, Certificate}
 use Rattle.mb_certificate.specs.Valid.{IsValid}
 use Rattle.mb_checker.proofs.ValidCertificates.{valid-markov}
-use Rattle.mb_desk.specs.ExactTest.{AreFigures, IsExactTest, fraction_in, narrow, within_limit}
+use Rattle.mb_desk.specs.ExactTest.{AreFigures, IsExactTest, fraction_in, narrow, small_enough}
 use Rattle.mb_desk.specs.declared.exact_test.Figures.{Figures}
 use Rattle.mb_desk.specs.declared.exact_test.NumbersFault.TheVariants as faults
 use Rattle.mb_matrix.proofs.AscendingLists.{occurs_once}
@@ -34,7 +34,8 @@ use Rattle.mb_weights.proofs.TableOrders.{below-permutation, once-permutation, w
 use Rattle.mb_weights.specs.PValue.{Fraction, below_of, exact_p_value, tables_in, whole_of}
 
 -- the tables that some vectors keep are those of their lists
-pub tables-listed : (rings : List (Vec (List ℕ) Global)) → tables_in rings ≡ tables_of (listed rings)
+pub tables-listed : (rings : List (Vec (List ℕ) Global)) →
+    tables_in rings ≡ tables_of (listed rings)
 tables-listed [] = refl
 tables-listed (ring ∷ rings) = ap (λ l. ring.items ++ l) (tables-listed rings)
 
@@ -119,11 +120,14 @@ module _ (matrix : Design) (design : IsDesign matrix) (moves : List (List ℤ))
       let w = whole ∙ whole-permutation measure (reached matrix moves observed)
       (fiber_of matrix observed) reached-permuted in
       ap (λ n. record { below = n; whole = fraction.whole }) b
-      ∙ ap (λ n. record { below = below_of measure observed (fiber_of matrix observed); whole = n }) w
+      ∙ ap (λ n. record {
+        below = below_of measure observed (fiber_of matrix observed);
+        whole = n;
+      }) w
 
   -- a walk that ends within the limit has the rings, and the fiber is within the limit
   pub walk-ok : (limit : ℕ) (rings : List Ring) → walk_of limit matrix moves observed ≡ Ok rings →
-      (within_limit limit (fiber_of matrix observed) ≡ Ok tt)
+      (small_enough limit (fiber_of matrix observed) ≡ Ok tt)
       × (rings ≡ rings_of matrix moves observed)
   walk-ok limit rings e =
       by (nat_lt limit (length (reached matrix moves observed)))
@@ -131,8 +135,9 @@ module _ (matrix : Design) (design : IsDesign matrix) (moves : List (List ℤ))
     where
       by : (many : Bool) → nat_lt limit (length (fiber_of matrix observed)) ≡ many →
           ◌≡◌ {A = Result (List Ring) WalkFault}
-          (cond many (Err (TooLarge (limit + 1))) (Ok (rings_of matrix moves observed))) (Ok rings) →
-          (within_limit limit (fiber_of matrix observed) ≡ Ok tt)
+          (cond many (Err (TooLarge (limit + 1))) (Ok (rings_of matrix moves observed)))
+          (Ok rings) →
+          (small_enough limit (fiber_of matrix observed) ≡ Ok tt)
           × (rings ≡ rings_of matrix moves observed)
       by true many e = absurd (cc)
       by false many e = (
@@ -142,7 +147,7 @@ module _ (matrix : Design) (design : IsDesign matrix) (moves : List (List ℤ))
 
   -- a walk that passes it says that the fiber does
   pub walk-large : (limit seen : ℕ) → walk_of limit matrix moves observed ≡ Err (TooLarge seen) →
-      within_limit limit (fiber_of matrix observed) ≡ Err (faults.TooLarge seen)
+      small_enough limit (fiber_of matrix observed) ≡ Err (faults.TooLarge seen)
   walk-large limit seen e =
       by (nat_lt limit (length (reached matrix moves observed)))
       (ap (nat_lt limit) (sym reached-count)) e
@@ -151,7 +156,7 @@ module _ (matrix : Design) (design : IsDesign matrix) (moves : List (List ℤ))
           ◌≡◌ {A = Result (List Ring) WalkFault}
           (cond many (Err (TooLarge (limit + 1))) (Ok (rings_of matrix moves observed)))
           (Err (TooLarge seen)) →
-          within_limit limit (fiber_of matrix observed) ≡ Err (faults.TooLarge seen)
+          small_enough limit (fiber_of matrix observed) ≡ Err (faults.TooLarge seen)
       by true many e =
           let f : limit + 1 ≡ seen = cc in
           ap (λ t. cond t (Err (faults.TooLarge (limit + 1))) (Ok tt)) many
@@ -174,7 +179,7 @@ module _ (c : Certificate) (parts : AreParts c) (valid : IsValid c) (observed : 
   -- a walk by its matrix and moves that ends within the limit
   pub walked : (matrix : Design) (moves : List (List ℤ)) (limit : ℕ) (rings : List Ring) →
       matrix ≡ c.matrix → moves ≡ c.moves → walk_of limit matrix moves observed ≡ Ok rings →
-      (within_limit limit (fiber_of c.matrix observed) ≡ Ok tt)
+      (small_enough limit (fiber_of c.matrix observed) ≡ Ok tt)
       × (rings ≡ rings_of c.matrix c.moves observed)
   walked matrix moves limit rings m z e =
       walk-ok c.matrix parts.design c.moves certified observed long limit rings
@@ -185,7 +190,7 @@ module _ (c : Certificate) (parts : AreParts c) (valid : IsValid c) (observed : 
   pub passed : (matrix : Design) (moves : List (List ℤ)) (limit seen : ℕ) →
       matrix ≡ c.matrix → moves ≡ c.moves →
       walk_of limit matrix moves observed ≡ Err (TooLarge seen) →
-      within_limit limit (fiber_of c.matrix observed) ≡ Err (faults.TooLarge seen)
+      small_enough limit (fiber_of c.matrix observed) ≡ Err (faults.TooLarge seen)
   passed matrix moves limit seen m z e =
       walk-large c.matrix parts.design c.moves certified observed long limit seen
       (ap (λ x. walk_of limit c.matrix x observed) (sym z)

@@ -1,5 +1,5 @@
 -- A change that is decided fits the world that it is decided over.
-use Rattle.std.proofs.Common.{Err, List, Ok, Result, refl, subst, ℕ, ◌≡◌}
+use Rattle.std.proofs.Common.{Err, List, Ok, Result, subst, ℕ, ◌≡◌}
 use Rattle.mb_desk.specs.Changes.{Misses}
 use Rattle.mb_desk.specs.Decision.{Decided, or_refusal}
 use Rattle.mb_desk.specs.Plans.{answers}
@@ -7,13 +7,6 @@ use Rattle.mb_desk.specs.World.{World}
 use Rattle.mb_desk.specs.declared.plans.Change.{Change}
 use Rattle.mb_desk.specs.declared.plans.Plan.{Plan}
 use Rattle.mb_desk.specs.declared.refusals.Refusal.{Refusal}
-use Rattle.mb_tables.specs.Answers.{◌>>=◌}
-
--- the value of a step that went on
-pub bind_ok : {A B F : Type 0} (step : Result A F) (next : A → Result B F) (y : B) →
-    (step >>= next) ≡ Ok y → (x : A) × (step ≡ Ok x) × (next x ≡ Ok y)
-bind_ok (Ok x) next y e = (x, refl, e)
-bind_ok (Err fault) next y e = absurd (cc)
 
 -- the value of a lower call whose fault would be a refusal
 pub or_ok : {A F : Type 0} (refusal : F → Refusal) (says : Result A F) (x : A) →

@@ -1,5 +1,6 @@
 -- Steps that never refuse for a record that is none, or for a line of a certificate.
 use Rattle.std.proofs.Common.{Bool, Err, List, None, Ok, Option, Result, Some, [], cond, false, length, nat_eq, nat_lt, refl, subst, suc, true, ℕ, ℤ, ◌+◌, ◌^◌, ◌||◌, ◌∷◌, ◌≡◌, ◌≢◌}
+use Rattle.std.proofs.lemmas.Bool.{or_parts}
 use Rattle.std.specs.FinMap.{get}
 use Rattle.std.specs.Option.{ok_or}
 use Rattle.std.specs.Str.{bytes_eq}
@@ -15,12 +16,12 @@ use Rattle.mb_data.specs.CrossTable.{CrossTable}
 use Rattle.mb_data.specs.DatasetText.{dataset_of}
 use Rattle.mb_data.specs.declared.fault.DataFault.{DataFault}
 use Rattle.mb_data.specs.declared.fault.DataFault.TheVariants as data_faults
-use Rattle.mb_desk.specs.CheckCommand.{certified, checked, judged, judged_by}
 use Rattle.mb_desk.specs.CheckCommand as checks
+use Rattle.mb_desk.specs.CheckCommand.{certified, checked, judged, judged_by}
 use Rattle.mb_desk.specs.Completing.{completed, completion_of}
 use Rattle.mb_desk.specs.DatasetCommand.{data_refusal, dataset_file, dataset_text}
 use Rattle.mb_desk.specs.Decision.{Decided, or_refusal}
-use Rattle.mb_desk.specs.ExactTest.{narrow, tested, within_limit}
+use Rattle.mb_desk.specs.ExactTest.{narrow, small_enough, tested}
 use Rattle.mb_desk.specs.GenerateCommand.{finished, generated, numbers_refusal, seed_table, square_matrix, square_measure, square_outcome, tested_square}
 use Rattle.mb_desk.specs.ImportCommand.{all_moves, beside_of, moved_on, moves_file, of_one_width, path_by, path_of, paths_of, too_large}
 use Rattle.mb_desk.specs.Inputs.{accepted, body_of, text_refusal}
@@ -122,21 +123,15 @@ pub never_if : {A F : Type 0} (bad : F → Bool) (test : Bool) (first second : R
 never_if bad true first second one other = one
 never_if bad false first second one other = other
 
--- a refusal for neither is not for a record
-neither : (a b : Bool) → (a || b) ≡ false → (a ≡ false) × (b ≡ false)
-neither true b e = absurd (cc e)
-neither false true e = absurd (cc e)
-neither false false e = (refl, refl)
-
 -- what never refuses for what is kept never does for a record
 pub never_record : {A : Type 0} (d : Decided A) → Never for_kept d → Never for_record d
 never_record (Ok x) never = tt
-never_record (Err refusal) never = (neither (for_record refusal) (for_line refusal) never).0
+never_record (Err refusal) never = (or_parts (for_record refusal) (for_line refusal) never).0
 
 -- nor for a line
 pub never_line : {A : Type 0} (d : Decided A) → Never for_kept d → Never for_line d
 never_line (Ok x) never = tt
-never_line (Err refusal) never = (neither (for_record refusal) (for_line refusal) never).1
+never_line (Err refusal) never = (or_parts (for_record refusal) (for_line refusal) never).1
 
 -- what is never answered isn't answered
 pub never_is : {A F : Type 0} (bad : F → Bool) (answer : Result A F) (fault : F) →
@@ -373,7 +368,7 @@ pub tested_free : (limit : ℕ) (matrix : Design) (measure : Weighting) (observe
     Never (λ fault. for_kept (numbers_refusal fault)) (tested limit matrix measure observed)
 tested_free limit matrix measure observed =
     never_then (λ fault. for_kept (numbers_refusal fault))
-    (within_limit limit (fiber_of matrix observed))
+    (small_enough limit (fiber_of matrix observed))
     (λ few. narrow (exact_p_value matrix measure observed))
     (never_if (λ fault. for_kept (numbers_refusal fault))
     (nat_lt limit (length (fiber_of matrix observed))) (Err (number_faults.TooLarge (limit + 1)))

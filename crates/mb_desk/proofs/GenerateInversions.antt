@@ -8,9 +8,9 @@ use Rattle.mb_completion.specs.Limits.{most_looks}
 use Rattle.mb_completion.specs.Run.{Finished, Outcome, RunEnds, TooHeavy, Unfinished}
 use Rattle.mb_completion.specs.Start.{births_of}
 use Rattle.mb_desk.proofs.FiberTests.{is_exact_test}
-use Rattle.mb_desk.proofs.Fitting.{bind_ok, or_ok}
+use Rattle.mb_desk.proofs.Fitting.{or_ok}
 use Rattle.mb_desk.proofs.SquareModel.{square_design, table_cells}
-use Rattle.mb_desk.specs.ExactTest.{IsExactTest, narrow, tested, within_limit}
+use Rattle.mb_desk.specs.ExactTest.{IsExactTest, narrow, small_enough, tested}
 use Rattle.mb_desk.specs.GenerateCommand.{finished, generated, generated_lines, numbers_refusal, seed_table, square_matrix, square_measure, square_outcome, tested_square}
 use Rattle.mb_desk.specs.Headline.{AnswersGenerate}
 use Rattle.mb_desk.specs.declared.exact_test.NumbersFault.{NumbersFault}
@@ -20,6 +20,7 @@ use Rattle.mb_order.specs.Rewriting.{Rule}
 use Rattle.mb_order.specs.declared.order.Order.TheVariants.{Grevlex}
 use Rattle.mb_rings.specs.Ring.{rings_of}
 use Rattle.mb_rings.specs.Walk.{most_tables}
+use Rattle.mb_text.proofs.RecordSteps.{stepped}
 use Rattle.mb_weights.specs.PValue.{Fraction, exact_p_value}
 
 -- the run ends as is computed
@@ -65,14 +66,14 @@ pub tests : (seed : ℕ) (fraction : Fraction) → generated seed ≡ Ok fractio
     AnswersGenerate seed (generated_lines seed fraction)
 tests seed fraction e =
     let table = seed_table seed in
-    let a = bind_ok (finished square_outcome) (λ nothing. tested_square table) fraction e in
+    let a = stepped (finished square_outcome) (λ nothing. tested_square table) fraction e in
     let run = finished_ok square_outcome a.0 a.1 in
     let c = certified square_matrix Grevlex most_looks run.0 run.1 square_design
     (subst (RunEnds square_matrix Grevlex most_looks) run.2 square_run) in
-    let found = or_ok numbers_refusal (tested most_tables square_matrix square_measure table) fraction
-    a.2 in
+    let found = or_ok numbers_refusal (tested most_tables square_matrix square_measure table)
+    fraction a.2 in
     let p = exact_p_value square_matrix square_measure table in
-    let b = bind_ok (within_limit most_tables (fiber_of square_matrix table)) (λ few. narrow p)
+    let b = stepped (small_enough most_tables (fiber_of square_matrix table)) (λ few. narrow p)
     fraction found in
     let own = narrow_ok p fraction b.2 in
     let test = is_exact_test square_matrix square_design (c.0).moves c.5 table (table_cells seed)

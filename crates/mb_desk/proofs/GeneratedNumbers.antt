@@ -13,12 +13,11 @@ use Rattle.mb_completion.specs.Start.{births_of}
 use Rattle.mb_completion.specs.declared.fault.CompleteFault.{CompleteFault}
 use Rattle.mb_completion.specs.declared.fault.CompleteFault.TheVariants as runs
 use Rattle.mb_desk.proofs.FiberTests.{certified-sum}
-use Rattle.mb_desk.proofs.Fitting.{bind_ok}
 use Rattle.mb_desk.proofs.GenerateInversions.{few_ok, square_run}
 use Rattle.mb_desk.proofs.SquareModel.{square_design, table_cells, table_margins}
 use Rattle.mb_desk.specs.Completing.{complete_stop}
 use Rattle.mb_desk.specs.Decision.{or_refusal, stop_cause}
-use Rattle.mb_desk.specs.ExactTest.{Numbers, accepted, narrow, numbers_cause, numbers_in, numbers_of, tested, within_limit}
+use Rattle.mb_desk.specs.ExactTest.{Numbers, accepted, narrow, numbers_cause, numbers_in, numbers_of, small_enough, tested}
 use Rattle.mb_desk.specs.GenerateCommand.{finished, numbers_refusal, numbers_stop, seed_table, square_matrix, square_measure, square_outcome, tested_square}
 use Rattle.mb_desk.specs.declared.exact_test.Figures.{Figures}
 use Rattle.mb_desk.specs.declared.exact_test.NumbersFault.{NumbersFault}
@@ -30,6 +29,7 @@ use Rattle.mb_order.specs.declared.order.Order.TheVariants.{Grevlex}
 use Rattle.mb_rings.specs.Ring.{rings_of}
 use Rattle.mb_rings.specs.Walk.{most_tables}
 use Rattle.mb_tables.specs.Answers.{IsRefused, ◌>>=◌}
+use Rattle.mb_text.proofs.RecordSteps.{stepped}
 use Rattle.mb_weights.specs.PValue.{exact_p_value}
 use Rattle.mb_weights.specs.Weight.{weight_of}
 
@@ -104,19 +104,20 @@ module _ (c : Certificate) (parts : AreParts c) (valid : IsValid c) (table : Lis
         (map (length {A = List ℕ}) (rings_of c.matrix c.moves table) ≡ figures.rings.items)
         × (length (fiber_of c.matrix table) ≤ most_tables)
     found figures e =
-        let after = λ (nothing : Unit {0}). tested most_tables c.matrix measure table >>= λ fraction.
+        let after = λ (nothing : Unit {0}).
+        tested most_tables c.matrix measure table >>= λ fraction.
         Ok (record {
           sizes = map (length {A = List ℕ}) (rings_of c.matrix c.moves table);
           weight = weight_of measure table;
           fraction = fraction;
         }) in
-        let a = bind_ok (accepted (first_fault c)) after (numbers_in figures) e in
-        let b = bind_ok (tested most_tables c.matrix measure table) (λ fraction. Ok (record {
+        let a = stepped (accepted (first_fault c)) after (numbers_in figures) e in
+        let b = stepped (tested most_tables c.matrix measure table) (λ fraction. Ok (record {
           sizes = map (length {A = List ℕ}) (rings_of c.matrix c.moves table);
           weight = weight_of measure table;
           fraction = fraction;
         })) (numbers_in figures) a.2 in
-        let f = bind_ok (within_limit most_tables (fiber_of c.matrix table))
+        let f = stepped (small_enough most_tables (fiber_of c.matrix table))
         (λ few. narrow (exact_p_value c.matrix measure table)) b.0 b.1 in (
           ap (λ (n : Numbers). n.sizes) (one_value _ (numbers_in figures) b.2),
           few_ok most_tables (length (fiber_of c.matrix table)) f.0 f.1,
@@ -143,7 +144,8 @@ module _ (c : Certificate) (parts : AreParts c) (valid : IsValid c) (table : Lis
     refused-so : (fault : NumbersFault) → numbers_of most_tables c measure table ≡ Err fault →
         tested_square table ≡ Err (numbers_refusal fault)
     refused-so fault e =
-        let after = λ (nothing : Unit {0}). tested most_tables c.matrix measure table >>= λ fraction.
+        let after = λ (nothing : Unit {0}).
+        tested most_tables c.matrix measure table >>= λ fraction.
         Ok (record {
           sizes = map (length {A = List ℕ}) (rings_of c.matrix c.moves table);
           weight = weight_of measure table;

@@ -2,7 +2,6 @@
 use Rattle.std.proofs.Common.{Bool, List, None, Ok, Option, Some, [], ap, cond, false, refl, subst, sym, true, ℕ, ◌∙◌, ◌∷◌, ◌≡◌}
 use Rattle.std.proofs.lemmas.List.Elements.{All-cons, All-nil}
 use Rattle.std.specs.FinMap.{get, get-insert, insert}
-use Rattle.mb_desk.proofs.Fitting.{bind_ok}
 use Rattle.mb_desk.proofs.KeptRecords.{kept_as_is, was_before}
 use Rattle.mb_desk.proofs.Standing.{kept_as_stands, kept_as_there, records_stand, stand_inserted}
 use Rattle.mb_desk.specs.Sound.{AreSound, IsSoundRecord}
@@ -25,6 +24,7 @@ use Rattle.mb_registry.specs.declared.adding.Added.TheVariants.{Stored, Unchange
 use Rattle.mb_registry.specs.declared.kinds.Kind.{Kind}
 use Rattle.mb_registry.specs.declared.kinds.Kind.TheVariants.{Dataset, Model}
 use Rattle.mb_tables.specs.Answers.{◌>>=◌}
+use Rattle.mb_text.proofs.RecordSteps.{stepped}
 use Rattle.mb_text.specs.Name.{IsName}
 
 -- a record that fits still does in all rows in which the rows stand
@@ -75,7 +75,7 @@ stored_before : (name : List ℕ) (entry : RecordValue) (rows : Rows) →
     record_added name entry rows ≡ Ok Stored → get rows (key_of (kind_of entry) name) ≡ None
 stored_before name entry rows e =
     let a =
-    bind_ok (refers (reference_of entry) rows)
+    stepped (refers (reference_of entry) rows)
     (λ there. beside_kept (body_of entry) (get rows (key_of (kind_of entry) name))) Stored e in
     was_before (body_of entry) (get rows (key_of (kind_of entry) name)) Stored a.2
 

@@ -1,20 +1,20 @@
 -- What is known where `import` went through to its answer.
 use Rattle.std.proofs.Common.{All, Bool, Err, List, None, Ok, Option, Some, [], ap, arith, cond, drop, false, length, map, nat_eq, nat_lt, refl, subst, suc, sym, true, ℕ, ℤ, ◌∙◌, ◌∷◌, ◌≡◌}
+use Rattle.std.proofs.lemmas.Bool.{and_from}
 use Rattle.std.proofs.lemmas.Bool.Decides.{nat_tests}
 use Rattle.std.proofs.lemmas.List.Elements.{All-cons, All-nil}
 use Rattle.std.specs.FinMap.{get}
 use Rattle.std.specs.List.{range_with_len}
 use Rattle.mb_certificate.proofs.LineFaults.{all-at, move-none}
 use Rattle.mb_certificate.proofs.NoFaults.{valid-none}
-use Rattle.mb_certificate.proofs.Reasons.{true-both}
+use Rattle.mb_certificate.proofs.Walking.{walk-joined}
 use Rattle.mb_certificate.specs.Certificate.{AreParts, Certificate, Path}
 use Rattle.mb_certificate.specs.FirstFault.{first_fault, move_fault}
 use Rattle.mb_certificate.specs.Valid.{IsValid, Walks, free_rules, is_free}
 use Rattle.mb_certificate.specs.declared.line_fault.Reason.{Reason}
 use Rattle.mb_checker.proofs.ValidCertificates.{premises-hold}
-use Rattle.mb_desk.proofs.BesideMoves.{walk-joined}
 use Rattle.mb_desk.proofs.CheckInversions.{judged_ok}
-use Rattle.mb_desk.proofs.Fitting.{Fits, bind_ok}
+use Rattle.mb_desk.proofs.Fitting.{Fits}
 use Rattle.mb_desk.proofs.Inversions.{body_there, guard_ok, says}
 use Rattle.mb_desk.proofs.KeptRecords.{kept_fits, kept_means}
 use Rattle.mb_desk.proofs.LeastPathLaws.{found-least}
@@ -52,6 +52,7 @@ use Rattle.mb_tables.proofs.ListLaws.{In-filter, In-map_range, In-place, In-rang
 use Rattle.mb_tables.specs.Answers.{◌>>=◌}
 use Rattle.mb_tables.specs.Lists.{In}
 use Rattle.mb_tables.specs.Rows.{Rows}
+use Rattle.mb_text.proofs.RecordSteps.{stepped}
 use Rattle.mb_text.specs.Name.{IsName}
 
 -- ---- the paths that were found
@@ -111,10 +112,10 @@ module _ (limit : ℕ) (c : Certificate) (moves : List (List ℤ)) where
       })
   paths_from (k ∷ numbers) paths e =
       let a =
-      bind_ok (path_of limit c moves k)
+      stepped (path_of limit c moves k)
       (λ path. paths_of limit c moves numbers >>= λ more. Ok (path ∷ more)) paths e in
       let b =
-      bind_ok (paths_of limit c moves numbers) (λ more. Ok (a.0 ∷ more)) paths a.2 in
+      stepped (paths_of limit c moves numbers) (λ more. Ok (a.0 ∷ more)) paths a.2 in
       let one = path_from k a.0 a.1 in
       let rest = paths_from numbers b.0 b.1 in
       let same : ◌≡◌ {A = List Path} (a.0 ∷ b.0) paths = cc in
@@ -133,7 +134,7 @@ module _ (limit : ℕ) (c : Certificate) (moves : List (List ℤ)) where
       let left : left_of c.rules k ≡ rule.0 = left-is c.rules k rule e in
       let right : right_of c.rules k ≡ rule.1 = ap right_in e in
       let passes =
-      true-both (margin_free d (left_of c.rules k)) (margin_free d (right_of c.rules k))
+      and_from (margin_free d (left_of c.rules k)) (margin_free d (right_of c.rules k))
       (ap (margin_free d) left ∙ free.0) (ap (margin_free d) right ∙ free.1) in
       let listed =
       In-filter (is_free d c.rules) k (range_with_len 0 (length c.rules))
@@ -189,15 +190,15 @@ beside_from : (limit : ℕ) (c : Certificate) (moves : Rows) (new : Certificate)
 beside_from limit c moves new e =
     let numbers = free_rules c.matrix.rows c.rules in
     let a =
-    bind_ok (of_one_width c.matrix moves)
+    stepped (of_one_width c.matrix moves)
     (λ width. all_moves c.matrix 1 moves.rows >>= λ each.
     paths_of limit c moves.rows numbers >>= λ paths. Ok (with_moves c moves.rows paths)) new e in
     let b =
-    bind_ok (all_moves c.matrix 1 moves.rows)
+    stepped (all_moves c.matrix 1 moves.rows)
     (λ each. paths_of limit c moves.rows numbers >>= λ paths. Ok (with_moves c moves.rows paths))
     new a.2 in
     let d =
-    bind_ok (paths_of limit c moves.rows numbers) (λ paths. Ok (with_moves c moves.rows paths))
+    stepped (paths_of limit c moves.rows numbers) (λ paths. Ok (with_moves c moves.rows paths))
     new b.2 in
     let same : with_moves c moves.rows d.0 ≡ new = cc in
     subst (AreBeside limit c moves) same (record {
@@ -229,9 +230,9 @@ pub import_fits : (words : ImportWords) (w : World) (plan : Plan) →
     import_plan words w ≡ Ok plan → Fits plan.change w
 import_fits words w plan e =
     let a =
-    bind_ok (moves_file words.moves w.files) (λ moves. import_added words moves w.rows) plan e in
+    stepped (moves_file words.moves w.files) (λ moves. import_added words moves w.rows) plan e in
     let b =
-    bind_ok (imported words a.0 w.rows) (λ proved. import_kept words.name proved w.rows) plan a.2 in
+    stepped (imported words a.0 w.rows) (λ proved. import_kept words.name proved w.rows) plan a.2 in
     kept_fits Basis words.name (Some (Model, (b.0).0)) (basis_text (b.0).0 (b.0).1)
     (certificate_lines (b.0).1) w plan b.2
 
@@ -251,11 +252,11 @@ pub is_imported : (words : ImportWords) (moves : Rows) (w : World) (proved : Lis
     imported words moves w.rows ≡ Ok proved → IsImported words moves w proved
 is_imported words moves w proved e =
     let a =
-    bind_ok (found (basis_named words.basis) w.rows)
+    stepped (found (basis_named words.basis) w.rows)
     (λ basis. checked_beside words.limit moves basis.1 >>= λ new. Ok (basis.0, new)) proved e in
     let b =
-    bind_ok (checked_beside words.limit moves (a.0).1) (λ new. Ok ((a.0).0, new)) proved a.2 in
-    let d = bind_ok (judged (a.0).1) (λ right. beside_of words.limit right moves) b.0 b.1 in
+    stepped (checked_beside words.limit moves (a.0).1) (λ new. Ok ((a.0).0, new)) proved a.2 in
+    let d = stepped (judged (a.0).1) (λ right. beside_of words.limit right moves) b.0 b.1 in
     let right = judged_ok (a.0).1 d.0 (first_fault (a.0).1) d.1 in
     let has = has_basis w.rows words.basis (a.0).0 (a.0).1 a.1 in
     let read = has.2 in
@@ -281,11 +282,11 @@ pub import_means : (words : ImportWords) (w : World) (plan : Plan) →
     AnswersImport w (changed plan.change w) words plan.answer
 import_means words w plan e =
     let a =
-    bind_ok (moves_file words.moves w.files) (λ moves. import_added words moves w.rows) plan e in
+    stepped (moves_file words.moves w.files) (λ moves. import_added words moves w.rows) plan e in
     let b =
-    bind_ok (imported words a.0 w.rows) (λ proved. import_kept words.name proved w.rows) plan a.2 in
+    stepped (imported words a.0 w.rows) (λ proved. import_kept words.name proved w.rows) plan a.2 in
     let file =
-    bind_ok (body_of 1 (get w.files words.moves)) (λ text. accepted 1 (moves_of text)) a.0 a.1 in
+    stepped (body_of 1 (get w.files words.moves)) (λ text. accepted 1 (moves_of text)) a.0 a.1 in
     let is = is_imported words a.0 w b.0 b.1 in
     record {
       text = file.0;

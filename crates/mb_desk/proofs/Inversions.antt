@@ -2,8 +2,7 @@
 use Rattle.std.proofs.Common.{All, Bool, Err, List, None, Ok, Option, Result, Some, ap, cond, eqb, false, length, nat_lt, refl, sym, true, ℕ, ℤ, ◌∙◌, ◌≡◌}
 use Rattle.std.proofs.lemmas.Bool.{eqb-true}
 use Rattle.std.specs.FinMap.{get}
-use Rattle.mb_moves.proofs.Verdicts.{first_wrong-none}
-use Rattle.mb_desk.proofs.Fitting.{bind_ok, or_ok}
+use Rattle.mb_desk.proofs.Fitting.{or_ok}
 use Rattle.mb_desk.specs.Decision.{Decided}
 use Rattle.mb_desk.specs.Headline.{AnswersMoves, ReadsMatrix, ReadsMoves}
 use Rattle.mb_desk.specs.Inputs.{accepted, body_of, text_refusal}
@@ -11,6 +10,7 @@ use Rattle.mb_desk.specs.MovesCommand.{counted, judged, judged_text, moves_count
 use Rattle.mb_desk.specs.declared.refusals.Refusal.{Refusal}
 use Rattle.mb_desk.specs.declared.refusals.Refusal.TheVariants.{TooLong}
 use Rattle.mb_desk.specs.declared.requests.MovesWords.{MovesWords}
+use Rattle.mb_moves.proofs.Verdicts.{first_wrong-none}
 use Rattle.mb_moves.specs.GridText.{matrix_of, moves_of}
 use Rattle.mb_moves.specs.Testing.{first_wrong, tested_of, tested_text, verdict}
 use Rattle.mb_moves.specs.declared.fault.GridFault.{GridFault}
@@ -20,6 +20,7 @@ use Rattle.mb_moves.specs.declared.testing.Tested.TheVariants.{Moves}
 use Rattle.mb_outside.specs.Files.{Held, longest_file}
 use Rattle.mb_tables.specs.Answers.{◌>>=◌}
 use Rattle.mb_tables.specs.Rows.{IsMoveOf, Rows}
+use Rattle.mb_text.proofs.RecordSteps.{stepped}
 
 -- a test that did not refuse
 pub guard_ok : {A : Type 0} (test : Bool) (refusal : Refusal) (x : Decided A) (y : A) →
@@ -113,9 +114,9 @@ record IsJudged (matrix : Rows) (text : List ℕ) (count : ℕ) : Type 0 where
 judged_text_ok : (file : ℕ) (matrix : Rows) (text : List ℕ) (count : ℕ) →
     judged_text file matrix text ≡ Ok count → IsJudged matrix text count
 judged_text_ok file matrix text count e =
-    let a = bind_ok (accepted file (tested_text matrix text)) (counted matrix.width) count e in
+    let a = stepped (accepted file (tested_text matrix text)) (counted matrix.width) count e in
     let b =
-    bind_ok (moves_of text) (λ moves. Ok (tested_of matrix moves)) a.0
+    stepped (moves_of text) (λ moves. Ok (tested_of matrix moves)) a.0
     (says file (tested_text matrix text) a.0 a.1) in
     let tested : tested_of matrix b.0 ≡ a.0 = cc in
     record {
@@ -130,12 +131,12 @@ pub counts_moves : (held : Held) (words : MovesWords) (count : ℕ) →
 counts_moves held words count e =
     let read_second = λ (matrix_text : List ℕ). body_of 2 (get held words.moves) >>= λ moves_text.
     accepted 1 (matrix_of matrix_text) >>= λ matrix. judged_text 2 matrix moves_text in
-    let a = bind_ok (body_of 1 (get held words.matrix)) read_second count e in
+    let a = stepped (body_of 1 (get held words.matrix)) read_second count e in
     let read_texts = λ (moves_text : List ℕ). accepted 1 (matrix_of a.0) >>= λ matrix.
     judged_text 2 matrix moves_text in
-    let b = bind_ok (body_of 2 (get held words.moves)) read_texts count a.2 in
+    let b = stepped (body_of 2 (get held words.moves)) read_texts count a.2 in
     let c =
-    bind_ok (accepted 1 (matrix_of a.0)) (λ matrix. judged_text 2 matrix b.0) count b.2 in
+    stepped (accepted 1 (matrix_of a.0)) (λ matrix. judged_text 2 matrix b.0) count b.2 in
     let j = judged_text_ok 2 c.0 b.0 count c.2 in
     record {
       matrix = c.0;

@@ -4,7 +4,7 @@ use Rattle.std.proofs.lemmas.Slice.Eq.{bytes_eq-Decides}
 use Rattle.std.specs.FinMap.{get}
 use Rattle.std.specs.Option.{ok_or}
 use Rattle.std.specs.Str.{bytes_eq}
-use Rattle.mb_desk.proofs.Fitting.{Fits, bind_ok, or_ok}
+use Rattle.mb_desk.proofs.Fitting.{Fits, or_ok}
 use Rattle.mb_desk.specs.Changes.{changed}
 use Rattle.mb_desk.specs.Recorded.{added_plan, added_to, change_refusal, found, kept_plan, look_refusal}
 use Rattle.mb_desk.specs.StoredAnswers.{IsKept}
@@ -20,6 +20,7 @@ use Rattle.mb_registry.specs.declared.adding.Added.{Added}
 use Rattle.mb_registry.specs.declared.adding.Added.TheVariants.{Stored, Unchanged}
 use Rattle.mb_registry.specs.declared.fault.RegistryFault.TheVariants.{BadRecord, Conflict, Unknown}
 use Rattle.mb_registry.specs.declared.kinds.Kind.{Kind}
+use Rattle.mb_text.proofs.RecordSteps.{stepped}
 
 -- ---- found
 
@@ -45,7 +46,7 @@ pub kept_as_is : {A : Type 0} (kind : Kind) (read : List ℕ → Option A) (name
     (body : List ℕ) × (get rows (key_of kind name) ≡ Some body) × (read body ≡ Some x)
 kept_as_is kind read name rows x e =
     let a =
-    bind_ok (kept kind name rows) (λ body. ok_or (read body) (BadRecord kind name)) x e in (
+    stepped (kept kind name rows) (λ body. ok_or (read body) (BadRecord kind name)) x e in (
       a.0,
       kept_ok kind name rows a.0 a.1,
       ok_or_ok (read a.0) (BadRecord kind name) x a.2,
@@ -68,7 +69,8 @@ WasBefore body old Unchanged = old ≡ Some body
 -- a record is stored only where there was none, and left only where its body was there
 pub was_before : (body : List ℕ) (old : Option (List ℕ)) (added : Added) →
     beside_kept body old ≡ Ok added → WasBefore body old added
-was_before body None added e = let same : Stored ≡ added = cc in subst (WasBefore body None) same refl
+was_before body None added e =
+    let same : Stored ≡ added = cc in subst (WasBefore body None) same refl
 was_before body (Some old) added e = by (bytes_eq old body) refl e
   where
     by : (equal : Bool) → bytes_eq old body ≡ equal →
@@ -85,7 +87,7 @@ pub kept_before : (kind : Kind) (name : List ℕ) (reference : Option (Kind × L
 unfolding added_to
 kept_before kind name reference body rows added e =
     let a =
-    bind_ok (refers reference rows) (λ there. beside_kept body (get rows (key_of kind name))) added
+    stepped (refers reference rows) (λ there. beside_kept body (get rows (key_of kind name))) added
     (or_ok (change_refusal kind name) (added_of kind name reference body rows) added e) in
     was_before body (get rows (key_of kind name)) added a.2
 
@@ -114,7 +116,7 @@ pub kept_fits : (kind : Kind) (name : List ℕ) (reference : Option (Kind × Lis
     kept_plan kind name reference body lines w.rows ≡ Ok plan → Fits plan.change w
 kept_fits kind name reference body lines w plan e =
     let a =
-    bind_ok (added_to kind name reference body w.rows)
+    stepped (added_to kind name reference body w.rows)
     (λ added. Ok (added_plan kind name body lines added)) plan e in
     let same : added_plan kind name body lines a.0 ≡ plan = cc in
     subst (λ (p : Plan). Fits p.change w) same
@@ -127,7 +129,7 @@ pub kept_means : (kind : Kind) (name : List ℕ) (reference : Option (Kind × Li
     IsKept kind name body lines w.rows (changed plan.change w).rows plan.answer
 kept_means kind name reference body lines w plan e =
     let a =
-    bind_ok (added_to kind name reference body w.rows)
+    stepped (added_to kind name reference body w.rows)
     (λ added. Ok (added_plan kind name body lines added)) plan e in
     let same : added_plan kind name body lines a.0 ≡ plan = cc in
     subst (λ (p : Plan). IsKept kind name body lines w.rows (changed p.change w).rows p.answer) same

@@ -1,5 +1,5 @@
 -- The search among all lists of steps finds the least path.
-use Rattle.std.proofs.Common.{Bool, List, None, Option, Some, [], ap, arith, cond, false, inl, inr, length, map, negsuc, pos, refl, subst, suc, sym, true, zero, ℕ, ℤ, ◌++◌, ◌<◌, ◌∙◌, ◌∷◌, ◌≡◌, ◌≤◌, ◌⊎◌}
+use Rattle.std.proofs.Common.{List, None, Option, Some, [], ap, arith, cond, inl, inr, length, map, negsuc, pos, refl, subst, suc, sym, true, zero, ℕ, ℤ, ◌++◌, ◌<◌, ◌∙◌, ◌∷◌, ◌≡◌, ◌≤◌, ◌⊎◌}
 use Rattle.std.specs.List.{filter, flat_map}
 use Rattle.std.specs.Ordering.{is_lt}
 use Rattle.std.specs.declared.cmp.Ordering.{Ordering}
@@ -9,6 +9,7 @@ use Rattle.mb_certificate.proofs.Walking.{Walks-walk, walk-Walks}
 use Rattle.mb_certificate.specs.FirstFault.{walk}
 use Rattle.mb_certificate.specs.Valid.{MovesBy, Walks}
 use Rattle.mb_desk.specs.LeastPaths.{ends_at, leads, least_path, lists_of, lists_to, soonest, sooner, steps_of}
+use Rattle.mb_matrix.proofs.CellLists.{In-filter_yes}
 use Rattle.mb_rings.proofs.PathOrder.{before-never_itself, before-one_way, before-shorter, before-upto, upto-from_not}
 use Rattle.mb_rings.specs.ShortestPath.{IsLeastPath, path_cmp}
 use Rattle.mb_rings.specs.loops.Before.{IsBefore}
@@ -66,10 +67,12 @@ soonest-some (path ∷ paths) p e =
         })
     here r h Equal f e =
         let same : path ≡ p = cc in
-        subst (IsSoonest (path ∷ paths)) same (stays r h (λ b. let g : Equal ≡ Less = sym f ∙ b in cc))
+        subst (IsSoonest (path ∷ paths)) same
+        (stays r h (λ b. let g : Equal ≡ Less = sym f ∙ b in cc))
     here r h Greater f e =
         let same : path ≡ p = cc in
-        subst (IsSoonest (path ∷ paths)) same (stays r h (λ b. let g : Greater ≡ Less = sym f ∙ b in cc))
+        subst (IsSoonest (path ∷ paths)) same
+        (stays r h (λ b. let g : Greater ≡ Less = sym f ∙ b in cc))
 
     by : (o : Option (List ℤ)) → (soonest paths ≡ None → (q : List ℤ) → In q paths → ⊥) →
         ((r : List ℤ) → soonest paths ≡ Some r → IsSoonest paths r) → soonest paths ≡ o →
@@ -188,18 +191,6 @@ walks-leads : (moves : List (List ℤ)) (u v : List ℕ) (q : List ℤ) → Walk
 walks-leads moves u v q h =
     ap (ends_at v) (Walks-walk moves q u v h).1 ∙ lists-same v v refl
 
--- what a filter keeps passes
-kept-passes : {X : Type 0} (p : X → Bool) (x : X) (xs : List X) → In x (filter p xs) → p x ≡ true
-unfolding In
-kept-passes p x [] i = absurd i
-kept-passes p x (y ∷ xs) i = by (p y) refl i (kept-passes p x xs)
-  where
-    by : (t : Bool) → p y ≡ t → In x (cond t (y ∷ filter p xs) (filter p xs)) →
-        (In x (filter p xs) → p x ≡ true) → p x ≡ true
-    by true e (inl f) rest = ap p f ∙ e
-    by true e (inr j) rest = rest j
-    by false e j rest = rest j
-
 -- ---- the least path
 
 module _ (moves : List (List ℤ)) (most : ℕ) (u v : List ℕ) where
@@ -227,7 +218,7 @@ module _ (moves : List (List ℤ)) (most : ℕ) (u v : List ℕ) where
   unfolding least_path
   path-walks p e =
       leads-walks moves u v p
-      (kept-passes (leads moves u v) p all
+      (In-filter_yes (leads moves u v) p all
       (soonest-some (filter (leads moves u v) all) p e).there)
 
   -- the least path is found, where it isn't too long

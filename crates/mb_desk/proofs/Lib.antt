@@ -20,7 +20,6 @@ pub mod KeptRecords
 pub mod LeastPathLaws
 pub mod LinkedRecords
 pub mod Making
-pub mod MatrixFiles
 pub mod Meanings
 pub mod OptionWords
 pub mod ReachInversions

@@ -3,7 +3,6 @@ use Rattle.std.proofs.Common.{List, Ok, ap, subst, ℕ, ◌∙◌, ◌≡◌}
 use Rattle.mb_certificate.specs.Certificate.{Certificate}
 use Rattle.mb_data.specs.CrossTable.{CrossTable}
 use Rattle.mb_desk.proofs.AnalysedRecords.{of_parts}
-use Rattle.mb_desk.proofs.Fitting.{bind_ok}
 use Rattle.mb_desk.proofs.KeptRecords.{found_ok}
 use Rattle.mb_desk.specs.AnalyseCommand.{modelled, records_named}
 use Rattle.mb_desk.specs.Decision.{Decided, or_refusal}
@@ -14,6 +13,7 @@ use Rattle.mb_outside.specs.Rows.{Rows}
 use Rattle.mb_registry.specs.Faults.{Answer}
 use Rattle.mb_registry.specs.Looking.{basis_named, dataset_named, model_named}
 use Rattle.mb_tables.specs.Answers.{◌>>=◌}
+use Rattle.mb_text.proofs.RecordSteps.{stepped}
 
 -- what a look-up gives is found
 pub found_is : {A : Type 0} (look : Rows → Answer A) (rows : Rows) (x : A) →
@@ -31,11 +31,11 @@ modelled_linked : (rows : Rows) (name : List ℕ) (parts : List ℕ × ModelValu
     modelled name rows ≡ Ok parts →
     (model_named name rows ≡ Ok (parts.0, parts.1)) × (dataset_named parts.0 rows ≡ Ok parts.2)
 modelled_linked rows name parts e =
-    let a = bind_ok (found (model_named name) rows)
+    let a = stepped (found (model_named name) rows)
     (λ (m : List ℕ × ModelValue). found (dataset_named m.0) rows >>= λ table.
     Ok (m.0, m.1, table)) parts e in
-    let b = bind_ok (found (dataset_named (a.0).0) rows) (λ table. Ok ((a.0).0, (a.0).1, table)) parts
-    a.2 in
+    let b = stepped (found (dataset_named (a.0).0) rows)
+    (λ table. Ok ((a.0).0, (a.0).1, table)) parts a.2 in
     subst (λ (p : List ℕ × ModelValue × CrossTable).
     (model_named name rows ≡ Ok (p.0, p.1)) × (dataset_named p.0 rows ≡ Ok p.2))
     (one_of ((a.0).0, (a.0).1, b.0) parts b.2)
@@ -49,10 +49,10 @@ modelled_linked rows name parts e =
 pub records_linked : (rows : Rows) (basis : List ℕ) (records : Records) →
     records_named basis rows ≡ Ok records → AreLinked rows basis records
 records_linked rows basis records e =
-    let a = bind_ok (found (basis_named basis) rows)
+    let a = stepped (found (basis_named basis) rows)
     (λ (proved : List ℕ × Certificate). modelled proved.0 rows >>= λ m. Ok (of_parts proved m))
     records e in
-    let b = bind_ok (modelled (a.0).0 rows) (λ m. Ok (of_parts a.0 m)) records a.2 in
+    let b = stepped (modelled (a.0).0 rows) (λ m. Ok (of_parts a.0 m)) records a.2 in
     let there = modelled_linked rows (a.0).0 b.0 b.1 in
     subst (AreLinked rows basis) (one_of (of_parts a.0 b.0) records b.2)
     (record {

@@ -6,7 +6,7 @@ use Rattle.mb_desk.specs.Decision.{Scene}
 use Rattle.mb_desk.specs.Ends.{HasBlamed, IsHalfWritten}
 use Rattle.mb_desk.specs.World.{World, world_of}
 use Rattle.mb_desk.specs.declared.plans.Change.{Change}
-use Rattle.mb_desk.specs.declared.plans.Change.TheVariants.{Adds, Nothing, Removes, Replaces, Writes}
+use Rattle.mb_desk.specs.declared.plans.Change.TheVariants.{Adds, Nothing, Removes, Writes}
 use Rattle.mb_desk.specs.declared.plans.Stop.{Stop}
 use Rattle.mb_desk.specs.declared.plans.Stop.TheVariants.{Memory, Outside, Refused}
 use Rattle.mb_outside.specs.Causes.{Rose}
@@ -55,7 +55,6 @@ abbrev pub IsWrite : Change → Type 0
 IsWrite Nothing = ⊥
 IsWrite (Adds kind name body) = ⊥
 IsWrite (Removes kind name) = ⊥
-IsWrite (Replaces entries) = ⊥
 IsWrite (Writes file body) = Unit {0}
 
 -- such a change blames the files
@@ -64,7 +63,6 @@ pub file_blamed : (change : Change) (before after : Scene) → IsWrite change �
 file_blamed Nothing before after is blamed = absurd is
 file_blamed (Adds kind name body) before after is blamed = absurd is
 file_blamed (Removes kind name) before after is blamed = absurd is
-file_blamed (Replaces entries) before after is blamed = absurd is
 file_blamed (Writes file body) before after is blamed = blamed
 
 -- what a change makes of a world
@@ -79,8 +77,6 @@ makes_of (Adds kind name body) f0 f1 r0 r1 failed made files rows cause fits =
     rows_make (Adds kind name body) f0 f1 r0 r1 failed made files refl rows fits
 makes_of (Removes kind name) f0 f1 r0 r1 failed made files rows cause fits =
     rows_make (Removes kind name) f0 f1 r0 r1 failed made files refl rows fits
-makes_of (Replaces entries) f0 f1 r0 r1 failed made files rows cause fits =
-    rows_make (Replaces entries) f0 f1 r0 r1 failed made files refl rows fits
 makes_of (Writes file body) f0 f1 r0 r1 failed made files rows cause fits =
     write_makes file body f0 f1 r0 r1 failed made (cause tt) files rows
 
@@ -100,7 +96,6 @@ untold_files : (change : Change) (after : Held) (made : Made) →
 untold_files Nothing after made left = cc left.0
 untold_files (Adds kind name body) after made left = cc
 untold_files (Removes kind name) after made left = cc
-untold_files (Replaces entries) after made left = cc
 untold_files (Writes file body) after made left = untold_write file body after made left
 
 -- what a change makes of the world, where it is told

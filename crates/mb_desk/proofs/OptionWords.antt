@@ -4,9 +4,12 @@ use Rattle.std.specs.List.{list_any}
 use Rattle.std.specs.Prelude.{String, nat_eq, string_bytes}
 use Rattle.std.specs.Str.{bytes_eq}
 use Rattle.std.specs.declared.alloc.Global.{Global}
-use Rattle.mb_desk.specs.Words.{Choice, Count, Form, Name, Number, Text, Value, and_then, are_options, chosen, given, given_by, number_within, read_choices, read_forms, read_options, texts, value_of}
-use Rattle.mb_text.specs.Name.{IsName}
+use Rattle.mb_desk.specs.Forms.{Count, Form, Name, Number, Text, Value, texts, value_of}
+use Rattle.mb_desk.specs.Options.{Choice, are_options, chosen, given, given_by}
+use Rattle.mb_desk.specs.Words.{and_then, read_choices, read_forms, read_options}
 use Rattle.mb_desk.specs.declared.requests.Request.{Request}
+use Rattle.mb_text.specs.Name.{IsName}
+use Rattle.mb_text.specs.Plain.{number_within}
 
 -- fewer than two words give no value
 pub given_short : (name : List ℕ) (words : List (String Global)) → length words < 2 →
@@ -53,7 +56,8 @@ short_of_three first second third choices makes (a ∷ []) few =
 short_of_three first second third choices makes (a ∷ b ∷ []) few =
     none_then (value_of first (string_bytes a)) _ (λ v.
     none_then (value_of second (string_bytes b)) _ (λ w. refl))
-short_of_three first second third choices makes (a ∷ b ∷ c ∷ words) few = absurd (omega (arith, few))
+short_of_three first second third choices makes (a ∷ b ∷ c ∷ words) few =
+    absurd (omega (arith, few))
 
 -- the names of options
 abbrev pub names_of : List Choice → List (List ℕ)
@@ -80,8 +84,8 @@ pub number_and_choice : (low high n : ℕ) (choice : Choice) (value : Value)
 number_and_choice low high n choice value makes word words number options given =
     ap (λ found. and_then (option_map Count found)
     (λ v. read_options (choice ∷ []) words (λ vs. makes (v ∷ vs)))) (sym number)
-    ∙ ap (λ are. if are then read_choices (choice ∷ []) words (λ vs. makes (Count n ∷ vs)) else None)
-    options
+    ∙ ap (λ are. if are
+    then read_choices (choice ∷ []) words (λ vs. makes (Count n ∷ vs)) else None) options
     ∙ ap (λ v. and_then v (λ given. makes (Count n ∷ given ∷ []))) (sym given)
 
 -- two names, and then options or not
@@ -101,8 +105,8 @@ pub names_no_options : (choices : List Choice) (makes : List Value → Option Re
     read_forms (Name ∷ Name ∷ []) choices (a ∷ b ∷ words) makes ≡ None
 names_no_options choices makes a b words first second options =
     two_names choices makes a b words first second
-    ∙ ap (λ are. if are then read_choices choices words (λ vs. makes (Text a ∷ Text b ∷ vs)) else None)
-    options
+    ∙ ap (λ are. if are
+    then read_choices choices words (λ vs. makes (Text a ∷ Text b ∷ vs)) else None) options
 
 -- two names, and then two options
 pub names_and_choices : (one two : Choice) (v w : Value) (makes : List Value → Option Request)
@@ -115,6 +119,6 @@ names_and_choices one two v w makes a b words first second options given more =
     two_names (one ∷ two ∷ []) makes a b words first second
     ∙ ap (λ are. if are
     then read_choices (one ∷ two ∷ []) words (λ vs. makes (Text a ∷ Text b ∷ vs)) else None) options
-    ∙ ap (λ x. and_then x (λ x. and_then (chosen two words) (λ y. makes (Text a ∷ Text b ∷ x ∷ y ∷ []))))
-    (sym given)
+    ∙ ap (λ x. and_then x (λ x. and_then (chosen two words) (λ y.
+    makes (Text a ∷ Text b ∷ x ∷ y ∷ [])))) (sym given)
     ∙ ap (λ y. and_then y (λ y. makes (Text a ∷ Text b ∷ v ∷ y ∷ []))) (sym more)

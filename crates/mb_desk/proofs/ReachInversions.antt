@@ -1,12 +1,12 @@
 -- What is known where `reach` found its rings.
 use Rattle.std.proofs.Common.{All, Bool, Err, List, Ok, Result, [], ap, arith, cond, eqb, false, length, map, negsuc, pos, refl, subst, sum, sym, true, unsigned_abs, ℕ, ℤ, ◌&&◌, ◌+◌, ◌∙◌, ◌∷◌, ◌≡◌, ◌≤◌, ◌↔◌}
-use Rattle.std.proofs.lemmas.Bool.{eqb-true, leb-true}
+use Rattle.std.proofs.lemmas.Bool.{and_parts, eqb-true, leb-true}
 use Rattle.std.proofs.lemmas.Bool.Decides.{nat_tests}
 use Rattle.std.proofs.lemmas.List.{length-map}
 use Rattle.std.specs.FinMap.{get}
 use Rattle.std.specs.List.{list_all}
 use Rattle.std.specs.Prelude.{int_le, nat_le, nat_lt}
-use Rattle.mb_desk.proofs.Fitting.{bind_ok, or_ok}
+use Rattle.mb_desk.proofs.Fitting.{or_ok}
 use Rattle.mb_desk.proofs.Inversions.{AreJudged, judged_ok, reads_matrix, reads_moves, says}
 use Rattle.mb_desk.proofs.WalkStarts.{IsMade, is_made, made_moves}
 use Rattle.mb_desk.specs.Decision.{or_refusal}
@@ -40,19 +40,15 @@ use Rattle.mb_tables.specs.Chain.{Joined}
 use Rattle.mb_tables.specs.Limits.{largest_total, most_cells, most_moves}
 use Rattle.mb_tables.specs.Lists.{In}
 use Rattle.mb_tables.specs.Rows.{Rows}
+use Rattle.mb_text.proofs.RecordSteps.{stepped}
 use Rattle.mb_text.specs.Tokens.{tokens}
-
--- a conjunction that is true has true parts
-both_true : (a b : Bool) → (a && b) ≡ true → (a ≡ true) × (b ≡ true)
-both_true true b e = (refl, e)
-both_true false b e = absurd (cc)
 
 -- entries none of which is below 0 are their numbers without signs
 counts_again : (entries : List ℤ) → list_all (λ z. int_le (pos 0) z) entries ≡ true →
     map pos (map unsigned_abs entries) ≡ entries
 counts_again [] e = refl
 counts_again (pos n ∷ entries) e =
-    let parts = both_true (int_le (pos 0) (pos n)) (list_all (λ z. int_le (pos 0) z) entries) e in
+    let parts = and_parts (int_le (pos 0) (pos n)) (list_all (λ z. int_le (pos 0) z) entries) e in
     ap (λ zs. pos n ∷ zs) (counts_again entries parts.1)
 counts_again (negsuc n ∷ entries) e = absurd (cc)
 
@@ -70,9 +66,9 @@ row_ok cells width entries table e =
     let g =
     guard_ok (eqb width cells && are_counts entries) tables.NotATable (map unsigned_abs entries)
     table e in
-    let parts = both_true (eqb width cells) (are_counts entries) g.0 in
+    let parts = and_parts (eqb width cells) (are_counts entries) g.0 in
     let counts =
-    both_true (list_all (λ z. int_le (pos 0) z) entries)
+    and_parts (list_all (λ z. int_le (pos 0) z) entries)
     (nat_le (sum (map unsigned_abs entries)) largest_total) parts.1 in (
       eqb-true _ _ parts.0,
       subst (λ t. entries ≡ map pos t) g.1 (sym (counts_again entries counts.0)),
@@ -125,12 +121,12 @@ walked_ok limit matrix moves file rings e =
     let after_design = λ (design : Design). judged matrix moves >>= λ count.
     table_of matrix.width file >>= λ start.
     or_refusal walk_refusal (walk_of limit design moves.rows start) in
-    let a = bind_ok (designed matrix) after_design rings e in
+    let a = stepped (designed matrix) after_design rings e in
     let after_moves = λ (count : ℕ). table_of matrix.width file >>= λ start.
     or_refusal walk_refusal (walk_of limit a.0 moves.rows start) in
-    let b = bind_ok (judged matrix moves) after_moves rings a.2 in
+    let b = stepped (judged matrix moves) after_moves rings a.2 in
     let c =
-    bind_ok (table_of matrix.width file)
+    stepped (table_of matrix.width file)
     (λ start. or_refusal walk_refusal (walk_of limit a.0 moves.rows start)) rings b.2 in
     let walk = or_ok walk_refusal (walk_of limit a.0 moves.rows c.0) rings c.2 in
     let d = limit_ok limit (rings_of a.0 moves.rows c.0) rings walk in
@@ -186,11 +182,11 @@ texts_ok : (limit : ℕ) (first second third : List ℕ) (rings : List Ring) →
 texts_ok limit first second third rings e =
     let after_matrix = λ (matrix : Rows). accepted 2 (moves_of second) >>= λ moves.
     accepted 3 (moves_of third) >>= λ file. walked limit matrix moves file in
-    let a = bind_ok (accepted 1 (matrix_of first)) after_matrix rings e in
+    let a = stepped (accepted 1 (matrix_of first)) after_matrix rings e in
     let after_moves = λ (moves : Rows). accepted 3 (moves_of third) >>= λ file.
     walked limit a.0 moves file in
-    let b = bind_ok (accepted 2 (moves_of second)) after_moves rings a.2 in
-    let c = bind_ok (accepted 3 (moves_of third)) (λ file. walked limit a.0 b.0 file) rings b.2 in
+    let b = stepped (accepted 2 (moves_of second)) after_moves rings a.2 in
+    let c = stepped (accepted 3 (moves_of third)) (λ file. walked limit a.0 b.0 file) rings b.2 in
     record {
       matrix = a.0;
       moves = b.0;
@@ -260,12 +256,12 @@ finds_rings held words rings e =
     let after_first = λ (matrix_text : List ℕ). body_of 2 (get held words.moves) >>= λ moves_text.
     body_of 3 (get held words.table) >>= λ table_text.
     texts_rings words.limit matrix_text moves_text table_text in
-    let a = bind_ok (body_of 1 (get held words.matrix)) after_first rings e in
+    let a = stepped (body_of 1 (get held words.matrix)) after_first rings e in
     let after_second = λ (moves_text : List ℕ). body_of 3 (get held words.table) >>= λ table_text.
     texts_rings words.limit a.0 moves_text table_text in
-    let b = bind_ok (body_of 2 (get held words.moves)) after_second rings a.2 in
+    let b = stepped (body_of 2 (get held words.moves)) after_second rings a.2 in
     let c =
-    bind_ok (body_of 3 (get held words.table))
+    stepped (body_of 3 (get held words.table))
     (λ table_text. texts_rings words.limit a.0 b.0 table_text) rings b.2 in
     let w = texts_ok words.limit a.0 b.0 c.0 rings c.2 in
     let is = texts_reach words.limit a.0 b.0 c.0 rings w in

@@ -4,7 +4,7 @@ use Rattle.std.specs.FinMap.{get}
 use Rattle.std.specs.Prelude.{IsSome}
 use Rattle.mb_certificate.specs.Certificate.{Certificate}
 use Rattle.mb_data.specs.Written.{written}
-use Rattle.mb_desk.proofs.Fitting.{bind_ok, or_ok}
+use Rattle.mb_desk.proofs.Fitting.{or_ok}
 use Rattle.mb_desk.proofs.Inversions.{body_there}
 use Rattle.mb_desk.proofs.KeptRecords.{WasBefore, added_means, kept_before}
 use Rattle.mb_desk.proofs.Standing.{found_stands, records_stand, stand_inserted}
@@ -43,6 +43,7 @@ use Rattle.mb_registry.specs.declared.adding.Added.TheVariants.{Stored, Unchange
 use Rattle.mb_registry.specs.declared.kinds.Kind.{Kind}
 use Rattle.mb_registry.specs.declared.kinds.Kind.TheVariants.{Analysis, Basis, Dataset, Model}
 use Rattle.mb_tables.specs.Answers.{◌>>=◌}
+use Rattle.mb_text.proofs.RecordSteps.{stepped}
 
 -- a step that goes on, and what goes on after it
 both_ok : {A B : Type 0} (step : Decided A) (x : A) (next : A → Decided B) (y : B) →
@@ -89,7 +90,7 @@ unfolding added_to
 added_again kind name reference body lines w v added e later =
     let before = kept_before kind name reference body w.rows added e in
     let a =
-    bind_ok (refers reference w.rows)
+    stepped (refers reference w.rows)
     (λ there. beside_kept body (get w.rows (key_of kind name))) added
     (or_ok (change_refusal kind name) (added_of kind name reference body w.rows) added e) in
     let stand : RowsStand w.rows v.rows = λ key old there.
@@ -123,7 +124,7 @@ kept_again : (kind : Kind) (name : List ℕ) (reference : Option (Kind × List �
     IsKeptAgain kind name reference body lines w v plan
 kept_again kind name reference body lines w v plan e =
     let a =
-    bind_ok (added_to kind name reference body w.rows)
+    stepped (added_to kind name reference body w.rows)
     (λ added. Ok (added_plan kind name body lines added)) plan e in
     let same : added_plan kind name body lines a.0 ≡ plan = cc in
     subst (λ (p : Plan). RowsStand (changed p.change w).rows v.rows →
@@ -146,7 +147,7 @@ second_again : (named : Option (List ℕ)) (before after : Held) (text : Option 
     second_text named after ≡ Ok text
 second_again None before after text stand e = e
 second_again (Some file) before after text stand e =
-    let a = bind_ok (body_of 2 (get before file)) (λ body. Ok (Some body)) text e in
+    let a = stepped (body_of 2 (get before file)) (λ body. Ok (Some body)) text e in
     both_ok (body_of 2 (get after file)) a.0 (λ body. Ok (Some body)) text
     (file_again 2 file before after a.0 stand a.1) a.2
 
@@ -156,9 +157,9 @@ texts_again : (words : ModelWords) (before after : Held) (texts : List ℕ × Op
     model_texts words after ≡ Ok texts
 texts_again words before after texts stand e =
     let a =
-    bind_ok (body_of 1 (get before words.file))
+    stepped (body_of 1 (get before words.file))
     (λ text. second_text words.matrix before >>= λ matrix. Ok (text, matrix)) texts e in
-    let b = bind_ok (second_text words.matrix before) (λ matrix. Ok (a.0, matrix)) texts a.2 in
+    let b = stepped (second_text words.matrix before) (λ matrix. Ok (a.0, matrix)) texts a.2 in
     both_ok (body_of 1 (get after words.file)) a.0
     (λ text. second_text words.matrix after >>= λ matrix. Ok (text, matrix)) texts
     (file_again 1 words.file before after a.0 stand a.1)
@@ -178,9 +179,9 @@ module _ (w v : World) (plan : Plan) (files : FilesStand w.files v.files)
       IsRepeated (dataset_plan name file v) plan
   dataset_again name file e =
       let a =
-      bind_ok (dataset_file file w.files)
+      stepped (dataset_file file w.files)
       (λ table. kept_plan Dataset name None (written table) (cells_line table) w.rows) plan e in
-      let b = bind_ok (body_of 1 (get w.files file)) dataset_text a.0 a.1 in
+      let b = stepped (body_of 1 (get w.files file)) dataset_text a.0 a.1 in
       let k = kept_again Dataset name None (written a.0) (cells_line a.0) w v plan a.2 later in
       let read =
       both_ok (body_of 1 (get v.files file)) b.0 dataset_text a.0
@@ -196,12 +197,12 @@ module _ (w v : World) (plan : Plan) (files : FilesStand w.files v.files)
       IsRepeated (model_plan words v) plan
   model_again words e =
       let a =
-      bind_ok (model_texts words w.files) (λ texts. model_added words texts w.rows) plan e in
+      stepped (model_texts words w.files) (λ texts. model_added words texts w.rows) plan e in
       let b =
-      bind_ok (model_read words.dataset a.0 w.rows)
+      stepped (model_read words.dataset a.0 w.rows)
       (λ model. model_kept words.name words.dataset model w.rows) plan a.2 in
       let t =
-      bind_ok (found (dataset_named words.dataset) w.rows) (λ table. model_text a.0 table) b.0
+      stepped (found (dataset_named words.dataset) w.rows) (λ table. model_text a.0 table) b.0
       b.1 in
       let k =
       kept_again Model words.name (Some (Dataset, words.dataset))
@@ -222,12 +223,12 @@ module _ (w v : World) (plan : Plan) (files : FilesStand w.files v.files)
       IsRepeated (basis_plan words v.rows) plan
   basis_again words e =
       let a =
-      bind_ok (completed_named words w.rows) (λ completion.
+      stepped (completed_named words w.rows) (λ completion.
       kept_plan Basis words.name (Some (Model, words.model))
       (basis_text words.model completion.certificate) (completion_lines completion) w.rows)
       plan e in
       let b =
-      bind_ok (found (model_named words.model) w.rows)
+      stepped (found (model_named words.model) w.rows)
       (λ (model : List ℕ × ModelValue). completed model.1.matrix words.order words.looks)
       a.0 a.1 in
       let k =
@@ -249,15 +250,15 @@ module _ (w v : World) (plan : Plan) (files : FilesStand w.files v.files)
       IsRepeated (import_plan words v) plan
   import_again words e =
       let a =
-      bind_ok (moves_file words.moves w.files) (λ moves. import_added words moves w.rows) plan e in
+      stepped (moves_file words.moves w.files) (λ moves. import_added words moves w.rows) plan e in
       let t =
-      bind_ok (body_of 1 (get w.files words.moves)) (λ text. accepted 1 (moves_of text)) a.0
+      stepped (body_of 1 (get w.files words.moves)) (λ text. accepted 1 (moves_of text)) a.0
       a.1 in
       let b =
-      bind_ok (imported words a.0 w.rows) (λ proved. import_kept words.name proved w.rows) plan
+      stepped (imported words a.0 w.rows) (λ proved. import_kept words.name proved w.rows) plan
       a.2 in
       let c =
-      bind_ok (found (basis_named words.basis) w.rows) (λ (proved : List ℕ × Certificate).
+      stepped (found (basis_named words.basis) w.rows) (λ (proved : List ℕ × Certificate).
       checked_beside words.limit a.0 proved.1 >>= λ new. Ok (proved.0, new)) b.0 b.1 in
       let k =
       kept_again Basis words.name (Some (Model, (b.0).0)) (basis_text (b.0).0 (b.0).1)
@@ -281,9 +282,9 @@ module _ (w v : World) (plan : Plan) (files : FilesStand w.files v.files)
       IsRepeated (analyse_plan words v.rows) plan
   analyse_again words e =
       let a =
-      bind_ok (report_named words w.rows) (λ report.
+      stepped (report_named words w.rows) (λ report.
       kept_plan Analysis words.name (Some (Basis, words.basis)) report report w.rows) plan e in
-      let b = bind_ok (records_named words.basis w.rows) (reported words) a.0 a.1 in
+      let b = stepped (records_named words.basis w.rows) (reported words) a.0 a.1 in
       let k =
       kept_again Analysis words.name (Some (Basis, words.basis)) a.0 a.0 w v plan a.2 later in
       let made =

@@ -135,7 +135,8 @@ fault_end (Ok answer) e = absurd (cc)
 fault_end (Err Memory) e = absurd (cc)
 fault_end (Err Outside) e = refl
 fault_end (Err (Refused refusal)) e =
-    absurd (never refusal statuses.Outside (λ d. absurd (cc)) (λ d. absurd (cc)) (λ d. absurd (cc)) e)
+    absurd (never refusal statuses.Outside (λ d. absurd (cc)) (λ d. absurd (cc))
+    (λ d. absurd (cc)) e)
 
 -- the counts of an end that is no fault are as before
 stayed : (before after : Scene) (ended : Ended) → HaveCause before after (blames ended) →

@@ -35,7 +35,8 @@ pub kept-small : (kept : List (Vec (List ℕ) Global)) (rings : List Ring) → l
 kept-small kept rings k few i d l =
     let at = get_or-map (λ (ring : Vec (List ℕ) Global). ring.items) kept i d d.items l in
     let long = length-map kept (λ (ring : Vec (List ℕ) Global). ring.items) in
-    let within = get_or-le-sum_by (length {A = List ℕ}) (listed kept) i d.items (omega (arith, long, l)) in
+    let within = get_or-le-sum_by (length {A = List ℕ}) (listed kept) i d.items
+    (omega (arith, long, l)) in
     let size = ap (λ ring. length ring) at in
     let all = ap (sum_by (length {A = List ℕ})) k in
     omega (arith, within, size, all, few)

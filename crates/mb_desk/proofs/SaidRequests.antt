@@ -40,7 +40,8 @@ completion_said words before between after completion parts decided same =
     subst (λ (x : Completion). AreParts x.certificate) one parts) decided) same
 
 -- so is the certificate with moves that was made
-pub import_said : (words : ImportWords) (moves : Rows) (before between after : Option kept_rows.Rows)
+pub import_said : (words : ImportWords) (moves : Rows)
+    (before between after : Option kept_rows.Rows)
     (proved : List ℕ × Certificate) → AreParts proved.1 →
     WhereTold before between (λ rows _. imported words moves rows ≡ Ok proved) →
     WhereTold between after (λ b a. a ≡ b) →

@@ -1,7 +1,6 @@
 -- Design matrices whose rows are the same are the same, and the other way round.
-use Rattle.std.proofs.Common.{Bool, List, [], ap, arith, false, inl, inr, length, map, nat_eq, not, refl, subst, suc, sym, true, zero, ℕ, ◌<◌, ◌∙◌, ◌∷◌, ◌≡◌, ◌≤◌, ◌⊎◌}
-use Rattle.std.proofs.lemmas.Bool.{eq-eqb, eqb-true}
-use Rattle.mb_certificate.proofs.Reasons.{both-true, true-both}
+use Rattle.std.proofs.Common.{List, [], ap, arith, false, inl, inr, length, map, nat_eq, not, refl, subst, suc, sym, true, zero, ℕ, ◌<◌, ◌∙◌, ◌∷◌, ◌≡◌, ◌≤◌, ◌⊎◌}
+use Rattle.std.proofs.lemmas.Bool.{and_from, and_parts, eq-eqb, eqb-true, false_from_ne_true}
 use Rattle.mb_certificate.specs.FirstFault.{are_same}
 use Rattle.mb_desk.specs.AnalyseCommand.{same_design}
 use Rattle.mb_matrix.specs.Fiber.{AreColumns}
@@ -57,23 +56,19 @@ same-decides a b =
     let rows = nat-decides a.rows b.rows in
     let columns = pointwise_decides bytes_decides a.columns b.columns in (
       (λ e.
-          let both = both-true (nat_eq a.rows b.rows) (pointwise are_same a.columns b.columns) e in
+          let both = and_parts (nat_eq a.rows b.rows) (pointwise are_same a.columns b.columns) e in
           ap (λ n. let m : Design = record { rows = n; columns = a.columns } in m) (rows.0 both.0)
           ∙ ap (λ c. let m : Design = record { rows = b.rows; columns = c } in m)
           (columns.0 both.1)),
       (λ e.
-          true-both (nat_eq a.rows b.rows) (pointwise are_same a.columns b.columns)
+          and_from (nat_eq a.rows b.rows) (pointwise are_same a.columns b.columns)
           (rows.1 (ap (λ (m : Design). m.rows) e)) (columns.1 (ap (λ (m : Design). m.columns) e))),
     )
 
--- what isn't so isn't told
-not-told : (t : Bool) → (t ≡ true → ⊥) → false ≡ t
-not-told true h = absurd (h refl)
-not-told false h = refl
-
 -- design matrices that differ are told so
 pub told-apart : (a b : Design) → (a ≡ b → ⊥) → false ≡ same_design a b
-told-apart a b differ = not-told (same_design a b) (λ e. differ ((same-decides a b).0 e))
+told-apart a b differ = sym (false_from_ne_true (same_design a b)
+    (λ e. differ ((same-decides a b).0 e)))
 
 -- and such with the same rows are told to be the same
 pub told-same : (a b : Design) → IsDesign a → IsDesign b → a.rows ≡ b.rows →

@@ -10,9 +10,9 @@ use Rattle.mb_certificate.specs.declared.line_fault.Fault.{Fault}
 use Rattle.mb_certificate.specs.declared.line_fault.Reason.{Reason}
 use Rattle.mb_data.specs.CrossTable.{CrossTable, counts}
 use Rattle.mb_data.specs.Written as datasets
+use Rattle.mb_desk.proofs.AnalysedRecords.{of_parts}
 use Rattle.mb_desk.proofs.CompletedModels.{judged-right}
 use Rattle.mb_desk.proofs.FreeSteps.{Never, added_free, beside_free, check_free, completed_free, count_free, dataset_free, for_kept, for_line, for_record, generated_free, model_free, moves_free, never_made, never_is, never_line, never_or, never_record, never_then, reach_free, tested_free, texts_free}
-use Rattle.mb_desk.proofs.AnalysedRecords.{of_parts}
 use Rattle.mb_desk.proofs.KeptRecords.{found_ok, kept_as_is}
 use Rattle.mb_desk.proofs.LinkedRecords.{found_is, records_linked}
 use Rattle.mb_desk.proofs.SameMatrices.{same-decides}
@@ -26,7 +26,7 @@ use Rattle.mb_desk.specs.Commands.{plan_of}
 use Rattle.mb_desk.specs.Completing.{completed}
 use Rattle.mb_desk.specs.DatasetCommand.{cells_line, dataset_file}
 use Rattle.mb_desk.specs.ExactTest.{accepted, numbers_of, tested}
-use Rattle.mb_desk.specs.ExportCommand.{certificate_part, exported, exported_basis, matrix_file, writing}
+use Rattle.mb_desk.specs.ExportCommand.{certificate_part, exported, exported_basis, writing}
 use Rattle.mb_desk.specs.GenerateCommand.{generated, generated_lines, numbers_refusal}
 use Rattle.mb_desk.specs.ImportCommand.{beside_of, checked_beside, import_added, import_kept, imported, moves_file}
 use Rattle.mb_desk.specs.ListCommand.{printed_list}
@@ -52,6 +52,7 @@ use Rattle.mb_desk.specs.declared.requests.Request.{Request}
 use Rattle.mb_desk.specs.declared.requests.Request.TheVariants as requests
 use Rattle.mb_kinds.specs.Model.{ModelValue}
 use Rattle.mb_kinds.specs.Record.{written_record}
+use Rattle.mb_moves.specs.Written.{matrix_file}
 use Rattle.mb_outside.specs.Rows.{Rows}
 use Rattle.mb_registry.proofs.OrderlyRows.{IsNotBad, kept_not_bad, kept_there, known_row, listed_not_bad, removed_not_bad, then_not_bad}
 use Rattle.mb_registry.specs.Bodies.{analysis_body, basis_body, basis_text, dataset_body, model_body, model_record, record_of}

@@ -5,7 +5,7 @@ use Rattle.mb_certificate.specs.Certificate.{AreParts, Certificate}
 use Rattle.mb_data.specs.DatasetText.{dataset_of}
 use Rattle.mb_desk.proofs.AnalyseInversions.{is_analysed}
 use Rattle.mb_desk.proofs.BasisInversions.{is_completed}
-use Rattle.mb_desk.proofs.Fitting.{bind_ok, or_ok}
+use Rattle.mb_desk.proofs.Fitting.{or_ok}
 use Rattle.mb_desk.proofs.FreeRows.{removed_sound}
 use Rattle.mb_desk.proofs.ImportInversions.{is_imported}
 use Rattle.mb_desk.proofs.KeptRecords.{found_ok}
@@ -52,6 +52,7 @@ use Rattle.mb_registry.specs.declared.kinds.Kind.{Kind}
 use Rattle.mb_registry.specs.declared.kinds.Kind.TheVariants.{Analysis, Basis, Dataset, Model}
 use Rattle.mb_reports.specs.RingTable.{ring_table_of}
 use Rattle.mb_rings.specs.Walk.{most_tables}
+use Rattle.mb_text.proofs.RecordSteps.{stepped}
 use Rattle.mb_text.specs.Name.{IsName}
 
 module _ (w : World) (plan : Plan) (sound : AreSound w.rows) where
@@ -62,8 +63,8 @@ module _ (w : World) (plan : Plan) (sound : AreSound w.rows) where
   -- `dataset`: the text of the file says a dataset within the limits
   dataset_keeps : (name file : List ℕ) → IsName name → dataset_plan name file w ≡ Ok plan → Keeps
   dataset_keeps name file named e =
-      let a = bind_ok (dataset_file file w.files) (keeps_dataset name w) plan e in
-      let b = bind_ok (body_of 1 (get w.files file)) dataset_text a.0 a.1 in
+      let a = stepped (dataset_file file w.files) (keeps_dataset name w) plan e in
+      let b = stepped (body_of 1 (get w.files file)) dataset_text a.0 a.1 in
       kept_sound name (OfDataset a.0) (cells_line a.0) w plan named
       (dataset_sound b.0 a.0 (or_ok data_refusal (dataset_of b.0) a.0 b.2)) tt sound tt a.2
 
@@ -89,7 +90,7 @@ module _ (w : World) (plan : Plan) (sound : AreSound w.rows) where
       basis_plan words w.rows ≡ Ok plan → Keeps
   basis_keeps words named said e =
       let a =
-      bind_ok (completed_named words w.rows) (λ completion.
+      stepped (completed_named words w.rows) (λ completion.
       kept_plan Basis words.name (Some (Model, words.model))
       (basis_text words.model completion.certificate) (completion_lines completion) w.rows)
       plan e in
@@ -116,9 +117,9 @@ module _ (w : World) (plan : Plan) (sound : AreSound w.rows) where
       import_plan words w ≡ Ok plan → Keeps
   import_keeps words named said e =
       let a =
-      bind_ok (moves_file words.moves w.files) (λ moves. import_added words moves w.rows) plan e in
+      stepped (moves_file words.moves w.files) (λ moves. import_added words moves w.rows) plan e in
       let b =
-      bind_ok (imported words a.0 w.rows) (λ proved. import_kept words.name proved w.rows) plan
+      stepped (imported words a.0 w.rows) (λ proved. import_kept words.name proved w.rows) plan
       a.2 in
       let model = (b.0).0 in
       let new = (b.0).1 in
@@ -137,7 +138,7 @@ module _ (w : World) (plan : Plan) (sound : AreSound w.rows) where
       analyse_plan words w.rows ≡ Ok plan → Keeps
   analyse_keeps words named limit e =
       let a =
-      bind_ok (report_named words w.rows) (λ report.
+      stepped (report_named words w.rows) (λ report.
       kept_plan Analysis words.name (Some (Basis, words.basis)) report report w.rows) plan e in
       let is = is_analysed words w.rows a.0 a.1 in
       let records = is.records in
@@ -161,7 +162,7 @@ module _ (w : World) (plan : Plan) (sound : AreSound w.rows) where
   -- `remove`: no other record refers to the one that is taken out
   remove_keeps : (kind : Kind) (name : List ℕ) → remove_plan kind name w.rows ≡ Ok plan → Keeps
   remove_keeps kind name e =
-      let a = bind_ok (removable kind name w.rows) (λ done. Ok (removing kind name)) plan e in
+      let a = stepped (removable kind name w.rows) (λ done. Ok (removing kind name)) plan e in
       decided_keeps w (removing kind name) plan
       (removed_sound kind name w.rows sound
       (or_ok (change_refusal kind name) (removed_of kind name w.rows) a.0 a.1)) a.2
@@ -171,16 +172,17 @@ pub plan_keeps : (request : Request) (w : World) (plan : Plan) → IsRequest req
     CanBeSaid request w → AreSound w.rows → plan_of request w ≡ Ok plan →
     AreSound (changed plan.change w).rows
 plan_keeps (requests.Moves words) w plan is said sound e =
-    let a = bind_ok (moves_count words w.files) (λ count. Ok (answers (moves_line count))) plan e in
+    let a = stepped (moves_count words w.files) (λ count. Ok (answers (moves_line count))) plan e in
     decided_keeps w (answers (moves_line a.0)) plan sound a.2
 plan_keeps (requests.Reach words) w plan is said sound e =
-    let a = bind_ok (reach_rings words w.files) (λ rings. Ok (answers (ring_table_of rings))) plan e in
+    let a = stepped (reach_rings words w.files)
+    (λ rings. Ok (answers (ring_table_of rings))) plan e in
     decided_keeps w (answers (ring_table_of a.0)) plan sound a.2
 plan_keeps (requests.Check name) w plan is said sound e =
-    let a = bind_ok (checked name w.files) (λ c. Ok (answers (joins_line c))) plan e in
+    let a = stepped (checked name w.files) (λ c. Ok (answers (joins_line c))) plan e in
     decided_keeps w (answers (joins_line a.0)) plan sound a.2
 plan_keeps (requests.Generate seed workers) w plan is said sound e =
-    let a = bind_ok (generated seed) (λ p. Ok (answers (generated_lines seed p))) plan e in
+    let a = stepped (generated seed) (λ p. Ok (answers (generated_lines seed p))) plan e in
     decided_keeps w (answers (generated_lines seed a.0)) plan sound a.2
 plan_keeps (requests.Dataset name file) w plan is said sound e =
     dataset_keeps w plan sound name file is e
@@ -192,13 +194,13 @@ plan_keeps (requests.Import words) w plan is said sound e =
 plan_keeps (requests.Analyse words) w plan is said sound e =
     analyse_keeps w plan sound words is.0 is.1 e
 plan_keeps (requests.Report name) w plan is said sound e =
-    let a = bind_ok (printed_report name w.rows) (λ text. Ok (answers text)) plan e in
+    let a = stepped (printed_report name w.rows) (λ text. Ok (answers text)) plan e in
     decided_keeps w (answers a.0) plan sound a.2
 plan_keeps requests.List w plan is said sound e =
-    let a = bind_ok (printed_list w.rows) (λ text. Ok (answers text)) plan e in
+    let a = stepped (printed_list w.rows) (λ text. Ok (answers text)) plan e in
     decided_keeps w (answers a.0) plan sound a.2
 plan_keeps (requests.Export part name file) w plan is said sound e =
-    let a = bind_ok (exported part name w.rows) (λ body. Ok (writing part name file body)) plan e in
+    let a = stepped (exported part name w.rows) (λ body. Ok (writing part name file body)) plan e in
     decided_keeps w (writing part name file a.0) plan sound a.2
 plan_keeps (requests.Remove kind name) w plan is said sound e =
     remove_keeps w plan sound kind name e

@@ -5,7 +5,7 @@ use Rattle.mb_certificate.specs.Certificate.{Certificate}
 use Rattle.mb_certificate.specs.Valid.{IsValid}
 use Rattle.mb_data.specs.CrossTable.{CrossTable}
 use Rattle.mb_data.specs.Dataset.{IsCrossTable}
-use Rattle.mb_desk.proofs.Fitting.{bind_ok, or_ok}
+use Rattle.mb_desk.proofs.Fitting.{or_ok}
 use Rattle.mb_desk.proofs.GrownRows.{added_sound}
 use Rattle.mb_desk.proofs.KeptRecords.{kept_as_is}
 use Rattle.mb_desk.proofs.Standing.{kept_as_there}
@@ -30,6 +30,7 @@ use Rattle.mb_registry.specs.declared.adding.Added.{Added}
 use Rattle.mb_registry.specs.declared.adding.Added.TheVariants.{Stored, Unchanged}
 use Rattle.mb_registry.specs.declared.kinds.Kind.{Kind}
 use Rattle.mb_registry.specs.declared.kinds.Kind.TheVariants.{Basis, Dataset, Model}
+use Rattle.mb_text.proofs.RecordSteps.{stepped}
 use Rattle.mb_text.specs.Name.{IsName}
 
 -- ---- looked up
@@ -104,7 +105,7 @@ kept_sound name entry lines w plan named is few sound fits e =
     let kind = kind_of entry in
     let body = body_of entry in
     let a =
-    bind_ok (added_to kind name (reference_of entry) body w.rows)
+    stepped (added_to kind name (reference_of entry) body w.rows)
     (λ added. Ok (added_plan kind name body lines added)) plan e in
     let added =
     or_ok (change_refusal kind name) (added_of kind name (reference_of entry) body w.rows) a.0

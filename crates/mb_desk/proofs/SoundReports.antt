@@ -14,7 +14,8 @@ use Rattle.mb_desk.specs.Sound.{IsSoundAnalysis, test_report}
 use Rattle.mb_desk.specs.declared.requests.AnalyseWords.{AnalyseWords}
 use Rattle.mb_kinds.specs.Model.{IsModel}
 use Rattle.mb_matrix.specs.Matrix.{Design, IsDesign, fiber_of}
-use Rattle.mb_matrix.specs.Measure.{AreWeights, IsMeasureOf, Weighting, base_fault, group_at, groups_of, measure_fault, scale_fault, unless_fault}
+use Rattle.mb_matrix.specs.Measure.{AreWeights, IsMeasureOf, Weighting, base_fault, group_at, groups_of, measure_fault, scale_fault}
+use Rattle.mb_matrix.specs.Faults.{unless_fault}
 use Rattle.mb_matrix.specs.declared.measure_fault.MeasureFault.{MeasureFault}
 use Rattle.mb_matrix.specs.declared.measure_fault.MeasureFault.TheVariants.{BadBase}
 use Rattle.mb_outside.specs.Rows.{Rows}

@@ -1,7 +1,6 @@
 -- Sound rows stay sound along accepted requests.
 use Rattle.std.proofs.Common.{List, Ok, [], subst, sym, ◌∙◌, ◌∷◌, ◌≡◌}
 use Rattle.std.specs.FinMap.{empty, get-empty}
-use Rattle.mb_desk.proofs.Fitting.{bind_ok}
 use Rattle.mb_desk.proofs.KeptRecords.{kept_as_is}
 use Rattle.mb_desk.proofs.SoundPlans.{plan_keeps}
 use Rattle.mb_desk.specs.Calls.{after_request, after_requests}
@@ -15,6 +14,7 @@ use Rattle.mb_outside.specs.Rows.{key_cmp}
 use Rattle.mb_registry.proofs.OrderlySteps.{empty_orderly}
 use Rattle.mb_registry.specs.Bodies.{record_of}
 use Rattle.mb_registry.specs.Kinds.{key_of}
+use Rattle.mb_text.proofs.RecordSteps.{stepped}
 
 -- no rows are sound
 none_sound : AreSound empty
@@ -32,8 +32,8 @@ unfolding AllAreSaid after_requests
 after_sound [] w v said sound e =
     let same : w ≡ v = cc in subst (λ (u : World). AreSound u.rows) same sound
 after_sound (request ∷ requests) w v said sound e =
-    let a = bind_ok (after_request request w) (λ u. after_requests requests u) v e in
-    let b = bind_ok (plan_of request w) (λ plan. Ok (changed plan.change w)) a.0 a.1 in
+    let a = stepped (after_request request w) (λ u. after_requests requests u) v e in
+    let b = stepped (plan_of request w) (λ plan. Ok (changed plan.change w)) a.0 a.1 in
     let same : changed (b.0).change w ≡ a.0 = cc in
     after_sound requests a.0 v (said.2 a.0 a.1)
     (subst (λ (u : World). AreSound u.rows) same

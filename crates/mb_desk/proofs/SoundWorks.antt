@@ -12,7 +12,7 @@ use Rattle.mb_desk.specs.Sound.{AreSound}
 use Rattle.mb_desk.specs.SoundLaws.{CanBeSaid, IsRequest}
 use Rattle.mb_desk.specs.World.{World, world_of}
 use Rattle.mb_desk.specs.declared.plans.Change.{Change}
-use Rattle.mb_desk.specs.declared.plans.Change.TheVariants.{Adds, Nothing, Removes, Replaces, Writes}
+use Rattle.mb_desk.specs.declared.plans.Change.TheVariants.{Adds, Nothing, Removes, Writes}
 use Rattle.mb_desk.specs.declared.plans.Plan.{Plan}
 use Rattle.mb_desk.specs.declared.plans.Stop.{Stop}
 use Rattle.mb_desk.specs.declared.plans.Stop.TheVariants.{Memory, Outside, Refused}
@@ -23,7 +23,6 @@ half_rows : (change : Change) (w v : World) → IsHalfWritten change w v → v.r
 half_rows Nothing w v half = absurd half
 half_rows (Adds kind name body) w v half = absurd half
 half_rows (Removes kind name) w v half = absurd half
-half_rows (Replaces entries) w v half = absurd half
 half_rows (Writes file body) w v half = half.1
 
 -- so are the rows after work that stopped

@@ -1,5 +1,5 @@
--- The model of independence on 4 x 4 tables, worked out: its array is a design matrix, and its scale
--- and base are a measure on it.
+-- The model of independence on 4 x 4 tables, worked out: its array is a design matrix, and its
+-- scale and base are a measure on it.
 use Rattle.std.proofs.Common.{All, List, Ok, Result, [], ap, arith, length, map, pos, refl, replicate, subst, suc, sum, sym, zero, ℕ, ℤ, ◌%◌, ◌*◌, ◌/◌, ◌+◌, ◌-◌, ◌<◌, ◌^◌, ◌∙◌, ◌∷◌, ◌≡◌, ◌≤◌}
 use Rattle.std.proofs.lemmas.List.Sums.{sum-map, sum_by-cons}
 use Rattle.std.proofs.lemmas.Nat.{pow-add}

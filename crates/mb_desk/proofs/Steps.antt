@@ -55,8 +55,8 @@ goes_rows before between after n m k x answer decide next first second = record 
 }
 
 -- a step that only computes, after one over the rows that went on
-pub then_rows : {A B : Type 0} (before after : Option Rows) (n m : ℕ) (x : A) (answer : Result B Stop)
-    (decide : Rows → Decided A) (next : A → Decided B) →
+pub then_rows : {A B : Type 0} (before after : Option Rows) (n m : ℕ) (x : A)
+    (answer : Result B Stop) (decide : Rows → Decided A) (next : A → Decided B) →
     DoesRows {A = A} before after n m (Ok x) decide → Follows answer (next x) →
     blames answer ≡ false → DoesRows before after n m answer (λ rows. decide rows >>= next)
 then_rows before after n m x answer decide next first follows own = record {

@@ -6,13 +6,13 @@ use Rattle.mb_certificate.specs.Certificate.{Certificate}
 use Rattle.mb_data.specs.CrossTable.{CrossTable}
 use Rattle.mb_data.specs.DatasetText.{dataset_of}
 use Rattle.mb_data.specs.Written.{written}
-use Rattle.mb_desk.proofs.Fitting.{Fits, answers_fit, bind_ok, or_ok, plan_text}
+use Rattle.mb_desk.proofs.Fitting.{Fits, answers_fit, or_ok, plan_text}
 use Rattle.mb_desk.proofs.Inversions.{body_there}
 use Rattle.mb_desk.proofs.KeptRecords.{found_ok, kept_as_ok, kept_fits, kept_means, kept_ok}
 use Rattle.mb_desk.specs.Changes.{changed}
 use Rattle.mb_desk.specs.DatasetCommand.{cells_line, data_refusal, dataset_file, dataset_plan, dataset_text}
 use Rattle.mb_desk.specs.Decision.{Decided}
-use Rattle.mb_desk.specs.ExportCommand.{certificate_part, export_plan, exported, exported_basis, matrix_file, writing, wrote_line}
+use Rattle.mb_desk.specs.ExportCommand.{certificate_part, export_plan, exported, exported_basis, writing, wrote_line}
 use Rattle.mb_desk.specs.Inputs.{body_of}
 use Rattle.mb_desk.specs.ListCommand.{list_plan, printed_list}
 use Rattle.mb_desk.specs.ModelCommand.{kind_refusal, margins_line, model_added, model_kept, model_plan, model_read, model_text, model_texts, second_text}
@@ -31,6 +31,7 @@ use Rattle.mb_kinds.proofs.ReadTexts.{record_read}
 use Rattle.mb_kinds.specs.Kinds.{model_of}
 use Rattle.mb_kinds.specs.Model.{ModelValue}
 use Rattle.mb_kinds.specs.Record.{written_record}
+use Rattle.mb_moves.specs.Written.{matrix_file}
 use Rattle.mb_outside.proofs.KeptRows.{keys_total}
 use Rattle.mb_outside.specs.Files.{Held}
 use Rattle.mb_outside.specs.Rows.{Rows}
@@ -49,6 +50,7 @@ use Rattle.mb_reports.proofs.ReportTexts.{report_back}
 use Rattle.mb_reports.specs.Report.{report_text}
 use Rattle.mb_reports.specs.ReportText.{report_of}
 use Rattle.mb_tables.specs.Answers.{◌>>=◌}
+use Rattle.mb_text.proofs.RecordSteps.{stepped}
 
 -- ---- records that were found
 
@@ -87,7 +89,7 @@ keeps_dataset name w table =
 pub dataset_fits : (name file : List ℕ) (w : World) (plan : Plan) →
     dataset_plan name file w ≡ Ok plan → Fits plan.change w
 dataset_fits name file w plan e =
-    let a = bind_ok (dataset_file file w.files) (keeps_dataset name w) plan e in
+    let a = stepped (dataset_file file w.files) (keeps_dataset name w) plan e in
     kept_fits Dataset name None (written a.0) (cells_line a.0) w plan a.2
 
 -- and its answer has its meaning
@@ -95,8 +97,8 @@ pub dataset_means : (name file : List ℕ) (w : World) (plan : Plan) →
     dataset_plan name file w ≡ Ok plan →
     AnswersDataset w (changed plan.change w) name file plan.answer
 dataset_means name file w plan e =
-    let a = bind_ok (dataset_file file w.files) (keeps_dataset name w) plan e in
-    let b = bind_ok (body_of 1 (get w.files file)) dataset_text a.0 a.1 in
+    let a = stepped (dataset_file file w.files) (keeps_dataset name w) plan e in
+    let b = stepped (body_of 1 (get w.files file)) dataset_text a.0 a.1 in
     record {
       text = b.0;
       table = a.0;
@@ -112,7 +114,7 @@ second_there : (named : Option (List ℕ)) (held : Held) (text : Option (List �
     second_text named held ≡ Ok text → MayHold held named text
 second_there None held text e = cc
 second_there (Some file) held text e =
-    let a = bind_ok (body_of 2 (get held file)) (λ body. Ok (Some body)) text e in
+    let a = stepped (body_of 2 (get held file)) (λ body. Ok (Some body)) text e in
     (a.0, cc, body_there 2 (get held file) a.0 a.1)
 
 -- the texts of the files of `model` were there
@@ -125,9 +127,9 @@ has_texts : (words : ModelWords) (held : Held) (texts : List ℕ × Option (List
     model_texts words held ≡ Ok texts → HasTexts words held texts
 has_texts words held texts e =
     let a =
-    bind_ok (body_of 1 (get held words.file))
+    stepped (body_of 1 (get held words.file))
     (λ text. second_text words.matrix held >>= λ matrix. Ok (text, matrix)) texts e in
-    let b = bind_ok (second_text words.matrix held) (λ matrix. Ok (a.0, matrix)) texts a.2 in
+    let b = stepped (second_text words.matrix held) (λ matrix. Ok (a.0, matrix)) texts a.2 in
     let same : ◌≡◌ {A = List ℕ × Option (List ℕ)} (a.0, b.0) texts = cc in
     subst (HasTexts words held) same (record {
       there = body_there 1 (get held words.file) a.0 a.1;
@@ -147,11 +149,11 @@ pub record KeepsModel (words : ModelWords) (w : World) (plan : Plan) : Type 0 wh
 pub keeps_model : (words : ModelWords) (w : World) (plan : Plan) → model_plan words w ≡ Ok plan →
     KeepsModel words w plan
 keeps_model words w plan e =
-    let a = bind_ok (model_texts words w.files) (λ texts. model_added words texts w.rows) plan e in
+    let a = stepped (model_texts words w.files) (λ texts. model_added words texts w.rows) plan e in
     let b =
-    bind_ok (model_read words.dataset a.0 w.rows)
+    stepped (model_read words.dataset a.0 w.rows)
     (λ model. model_kept words.name words.dataset model w.rows) plan a.2 in
-    let c = bind_ok (found (dataset_named words.dataset) w.rows) (model_text a.0) b.0 b.1 in
+    let c = stepped (found (dataset_named words.dataset) w.rows) (model_text a.0) b.0 b.1 in
     record {
       texts = a.0;
       there = has_texts words w.files a.0 a.1;
@@ -196,16 +198,16 @@ model_means words w plan e =
 pub report_fits : (name : List ℕ) (w : World) (plan : Plan) → report_plan name w.rows ≡ Ok plan →
     Fits plan.change w
 report_fits name w plan e =
-    let a = bind_ok (printed_report name w.rows) (λ text. Ok (answers text)) plan e in
+    let a = stepped (printed_report name w.rows) (λ text. Ok (answers text)) plan e in
     answers_fit w (answers a.0) plan (λ misses. misses) a.2
 
 -- and its answer has its meaning
 pub report_means : (name : List ℕ) (w : World) (plan : Plan) → report_plan name w.rows ≡ Ok plan →
     AnswersReport w.rows name plan.answer
 report_means name w plan e =
-    let a = bind_ok (printed_report name w.rows) (λ text. Ok (answers text)) plan e in
+    let a = stepped (printed_report name w.rows) (λ text. Ok (answers text)) plan e in
     let b =
-    bind_ok (found (analysis_named name) w.rows) (λ report. Ok (report_text report)) a.0 a.1 in
+    stepped (found (analysis_named name) w.rows) (λ report. Ok (report_text report)) a.0 a.1 in
     let c = kept_as_ok Analysis analysis_body name w.rows b.0 b.1 in
     let back = report_back c.0 b.0 (ok_read (report_of c.0) b.0 c.2) in
     let printed : report_text b.0 ≡ a.0 = cc in
@@ -221,15 +223,15 @@ report_means name w plan e =
 -- the plan of `list` fits
 pub list_fits : (w : World) (plan : Plan) → list_plan w.rows ≡ Ok plan → Fits plan.change w
 list_fits w plan e =
-    let a = bind_ok (printed_list w.rows) (λ text. Ok (answers text)) plan e in
+    let a = stepped (printed_list w.rows) (λ text. Ok (answers text)) plan e in
     answers_fit w (answers a.0) plan (λ misses. misses) a.2
 
 -- and its answer has its meaning
 pub list_means : (w : World) (plan : Plan) → list_plan w.rows ≡ Ok plan →
     AnswersList w.rows plan.answer
 list_means w plan e =
-    let a = bind_ok (printed_list w.rows) (λ text. Ok (answers text)) plan e in
-    let b = bind_ok (found listed_of w.rows) (λ listed. Ok (list_text listed)) a.0 a.1 in
+    let a = stepped (printed_list w.rows) (λ text. Ok (answers text)) plan e in
+    let b = stepped (found listed_of w.rows) (λ listed. Ok (list_text listed)) a.0 a.1 in
     let printed : list_text b.0 ≡ a.0 = cc in
     record {
       listed = b.0;
@@ -244,7 +246,7 @@ basis_part : (part : Part) (name : List ℕ) (rows : Rows) (text : List ℕ) →
     exported_basis part name rows ≡ Ok text → IsOfBasis rows name text (certificate_part part)
 basis_part part name rows text e =
     let a =
-    bind_ok (found (basis_named name) rows) (λ basis. Ok (certificate_part part basis.1)) text e in
+    stepped (found (basis_named name) rows) (λ basis. Ok (certificate_part part basis.1)) text e in
     let b = has_basis rows name a.0.0 a.0.1 a.1 in
     let same : certificate_part part a.0.1 ≡ text = cc in
     (a.0.0, a.0.1, b.1 ∙ ap Some (b.2).written, (b.2).parts, sym same)
@@ -253,12 +255,12 @@ basis_part part name rows text e =
 part_of : (part : Part) (name : List ℕ) (rows : Rows) (text : List ℕ) →
     exported part name rows ≡ Ok text → IsPartOf part name rows text
 part_of parts.Dataset name rows text e =
-    let a = bind_ok (found (dataset_named name) rows) (λ table. Ok (written table)) text e in
+    let a = stepped (found (dataset_named name) rows) (λ table. Ok (written table)) text e in
     let same : written a.0 ≡ text = cc in
     (a.0, has_dataset rows name a.0 a.1, sym same)
 part_of parts.Matrix name rows text e =
     let a =
-    bind_ok (found (model_named name) rows) (λ model. Ok (matrix_file (model.1).matrix)) text e in
+    stepped (found (model_named name) rows) (λ model. Ok (matrix_file (model.1).matrix)) text e in
     let same : matrix_file (a.0.1).matrix ≡ text = cc in
     (a.0.0, a.0.1, has_model rows name a.0.0 a.0.1 a.1, sym same)
 part_of parts.Moves name rows text e = basis_part parts.Moves name rows text e
@@ -275,7 +277,7 @@ file_put held file text =
 pub export_fits : (part : Part) (name file : List ℕ) (w : World) (plan : Plan) →
     export_plan part name file w ≡ Ok plan → Fits plan.change w
 export_fits part name file w plan e =
-    let a = bind_ok (exported part name w.rows) (λ body. Ok (writing part name file body)) plan e in
+    let a = stepped (exported part name w.rows) (λ body. Ok (writing part name file body)) plan e in
     answers_fit w (writing part name file a.0) plan (λ misses. misses) a.2
 
 -- and its answer has its meaning
@@ -283,8 +285,9 @@ pub export_means : (part : Part) (name file : List ℕ) (w : World) (plan : Plan
     export_plan part name file w ≡ Ok plan →
     AnswersExport w (changed plan.change w) part name file plan.answer
 export_means part name file w plan e =
-    let a = bind_ok (exported part name w.rows) (λ body. Ok (writing part name file body)) plan e in
-    let made : AnswersExport w (changed (Writes file a.0) w) part name file (wrote_line part name a.0) =
+    let a = stepped (exported part name w.rows) (λ body. Ok (writing part name file body)) plan e in
+    let made : AnswersExport w (changed (Writes file a.0) w) part name file
+    (wrote_line part name a.0) =
     record {
       text = a.0;
       part_of = part_of part name w.rows a.0 a.1;
@@ -310,7 +313,7 @@ is_removable : (kind : Kind) (name : List ℕ) (rows : Rows) (done : Unit {0}) �
     removable kind name rows ≡ Ok done → IsRemovable kind name rows
 is_removable kind name rows done e =
     let a =
-    bind_ok (kept kind name rows) (λ body. unused name (referring_kind kind) rows) done
+    stepped (kept kind name rows) (λ body. unused name (referring_kind kind) rows) done
     (or_ok (change_refusal kind name) (removed_of kind name rows) done e) in
     record { body = a.0; there = kept_ok kind name rows a.0 a.1; free = a.2 }
 
@@ -325,7 +328,7 @@ row_gone rows kind name =
 pub remove_fits : (kind : Kind) (name : List ℕ) (w : World) (plan : Plan) →
     remove_plan kind name w.rows ≡ Ok plan → Fits plan.change w
 remove_fits kind name w plan e =
-    let a = bind_ok (removable kind name w.rows) (λ done. Ok (removing kind name)) plan e in
+    let a = stepped (removable kind name w.rows) (λ done. Ok (removing kind name)) plan e in
     let is = is_removable kind name w.rows a.0 a.1 in
     answers_fit w (removing kind name) plan
     (there_misses (get w.rows (key_of kind name)) is.body is.there) a.2
@@ -335,7 +338,7 @@ pub remove_means : (kind : Kind) (name : List ℕ) (w : World) (plan : Plan) →
     remove_plan kind name w.rows ≡ Ok plan →
     AnswersRemove w.rows (changed plan.change w).rows kind name plan.answer
 remove_means kind name w plan e =
-    let a = bind_ok (removable kind name w.rows) (λ done. Ok (removing kind name)) plan e in
+    let a = stepped (removable kind name w.rows) (λ done. Ok (removing kind name)) plan e in
     let is = is_removable kind name w.rows a.0 a.1 in
     let made : AnswersRemove w.rows (changed (Removes kind name) w).rows kind name
     (removed_line kind name) = record {
@@ -346,4 +349,5 @@ remove_means kind name w plan e =
       printed = refl;
     } in
     let same : removing kind name ≡ plan = cc in
-    subst (λ (p : Plan). AnswersRemove w.rows (changed p.change w).rows kind name p.answer) same made
+    subst (λ (p : Plan). AnswersRemove w.rows (changed p.change w).rows kind name p.answer)
+    same made

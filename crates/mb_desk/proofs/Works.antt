@@ -11,7 +11,7 @@ use Rattle.mb_desk.specs.Ends.{Commits, EachLeft, Ended, Ends, Leaves}
 use Rattle.mb_desk.specs.Needs.{Both, FilesAlone, Needs, Neither, RowsAlone, Touches, needed, needed_files, needed_rows, told_or}
 use Rattle.mb_desk.specs.World.{World, world_of}
 use Rattle.mb_desk.specs.declared.plans.Change.{Change}
-use Rattle.mb_desk.specs.declared.plans.Change.TheVariants.{Adds, Nothing, Removes, Replaces, Writes}
+use Rattle.mb_desk.specs.declared.plans.Change.TheVariants.{Adds, Nothing, Removes, Writes}
 use Rattle.mb_desk.specs.declared.plans.Plan.{Plan}
 use Rattle.mb_desk.specs.declared.plans.Stop.{Stop}
 use Rattle.mb_desk.specs.declared.plans.Stop.TheVariants.{Memory, Outside, Refused}
@@ -57,7 +57,8 @@ chained First Then Whole (Some f0) (Some f1) (Some f2) None (Some r1) (Some r2) 
     absurd rows
 chained First Then Whole (Some f0) (Some f1) (Some f2) (Some r0) (Some r1) (Some r2) files rows
     first then both =
-    let same : ◌≡◌ {A = World} (record { files = f1; rows = r1 }) (record { files = f0; rows = r0 }) =
+    let same : ◌≡◌ {A = World} (record { files = f1; rows = r1 })
+    (record { files = f0; rows = r0 }) =
     cc (files, rows) in
     both _ _ (subst (λ (x : World). First (record { files = f0; rows = r0 }) x) same first)
     (subst (λ (x : World). Then x (record { files = f2; rows = r2 })) same then)
@@ -108,14 +109,11 @@ files_needed RowsAlone (Adds kind name body) before after made touches left =
     ap (told_or empty) left
 files_needed RowsAlone (Removes kind name) before after made touches left =
     ap (told_or empty) left
-files_needed RowsAlone (Replaces entries) before after made touches left =
-    ap (told_or empty) left
 files_needed RowsAlone (Writes file body) before after made touches left = absurd touches
 files_needed Neither Nothing before after made touches left =
     (ap (told_or empty) left.0, left.1)
 files_needed Neither (Adds kind name body) before after made touches left = absurd touches
 files_needed Neither (Removes kind name) before after made touches left = absurd touches
-files_needed Neither (Replaces entries) before after made touches left = absurd touches
 files_needed Neither (Writes file body) before after made touches left = absurd touches
 
 -- rows that a change doesn't touch are left as it leaves them
@@ -164,16 +162,12 @@ rows_needed FilesAlone (Adds kind name body) f0 f1 before after made touches fil
     absurd touches
 rows_needed FilesAlone (Removes kind name) f0 f1 before after made touches files left keeper =
     absurd touches
-rows_needed FilesAlone (Replaces entries) f0 f1 before after made touches files left keeper =
-    absurd touches
 rows_needed Neither Nothing f0 f1 before after made touches files left keeper =
     told_untouched Nothing before after made keeper (λ rows. refl)
     (λ refusal e. absurd (cc (e, files.1)))
 rows_needed Neither (Adds kind name body) f0 f1 before after made touches files left keeper =
     absurd touches
 rows_needed Neither (Removes kind name) f0 f1 before after made touches files left keeper =
-    absurd touches
-rows_needed Neither (Replaces entries) f0 f1 before after made touches files left keeper =
     absurd touches
 rows_needed Neither (Writes file body) f0 f1 before after made touches files left keeper =
     absurd touches

@@ -22,8 +22,9 @@ use Rattle.mb_rings.specs.Ring.{Ring}
 use Rattle.mb_weights.specs.PValue.{Fraction}
 use Rattle.mb_weights.specs.Weight.{weight_of}
 
--- `basis`: the model of the name is completed, and the certificate of its reduced basis, whose moves
--- are a Markov basis of its design matrix, is kept; the numbers of looks, rules and moves are printed
+-- `basis`: the model of the name is completed, and the certificate of its reduced basis, whose
+-- moves are a Markov basis of its design matrix, is kept; the numbers of looks, rules and moves are
+-- printed
 pub record AnswersBasis (words : BasisWords) (before after : Rows) (answer : List ℕ) : Type 0 where
   pub dataset : List ℕ
   pub model : ModelValue
@@ -56,8 +57,8 @@ tested_report name basis model_name dataset_name model observed rings fraction =
 }
 
 -- `analyse`, of whatever the rows hold: the basis of the name is a valid certificate of the design
--- matrix of the model that it names, whose cells are those of the dataset that this names; the exact
--- test of the dataset's table by the moves of the basis is kept and printed
+-- matrix of the model that it names, whose cells are those of the dataset that this names; the
+-- exact test of the dataset's table by the moves of the basis is kept and printed
 pub record AnswersAnalyse (words : AnalyseWords) (before after : Rows) (answer : List ℕ) : Type 0
   where
     pub model_name : List ℕ
@@ -73,9 +74,10 @@ pub record AnswersAnalyse (words : AnalyseWords) (before after : Rows) (answer :
     pub matrix : certificate.matrix ≡ model.matrix
     pub cells : length (counts dataset.entries) ≡ length model.matrix.columns
     pub valid : IsValid certificate
-    pub test : IsExactTest model.matrix certificate.moves model.measure (counts dataset.entries) rings
-        fraction
-    -- the fiber is within the limit, its tables are those of the rings, and its weights are within 2^128
+    pub test : IsExactTest model.matrix certificate.moves model.measure (counts dataset.entries)
+        rings fraction
+    -- the fiber is within the limit, its tables are those of the rings, and its weights are within
+    -- 2^128
     pub few : length (fiber_of model.matrix (counts dataset.entries)) ≤ words.limit
     pub tables : sum (map (length {A = List ℕ}) rings)
         ≡ length (fiber_of model.matrix (counts dataset.entries))

@@ -5,7 +5,7 @@ use Rattle.mb_desk.specs.Decision.{Decided, HaveCause, InWorld, Scene, blames}
 use Rattle.mb_desk.specs.Needs.{Needs, Touches}
 use Rattle.mb_desk.specs.World.{World}
 use Rattle.mb_desk.specs.declared.plans.Change.{Change}
-use Rattle.mb_desk.specs.declared.plans.Change.TheVariants.{Adds, Nothing, Removes, Replaces, Writes}
+use Rattle.mb_desk.specs.declared.plans.Change.TheVariants.{Adds, Nothing, Removes, Writes}
 use Rattle.mb_desk.specs.declared.plans.Plan.{Plan}
 use Rattle.mb_desk.specs.declared.plans.Stop.{Stop}
 use Rattle.mb_desk.specs.declared.plans.Stop.TheVariants.{Memory, Outside, Refused}
@@ -19,7 +19,6 @@ abbrev pub IsHalfWritten : Change → World → World → Type 0
 IsHalfWritten Nothing w v = ⊥
 IsHalfWritten (Adds kind name body) w v = ⊥
 IsHalfWritten (Removes kind name) w v = ⊥
-IsHalfWritten (Replaces entries) w v = ⊥
 IsHalfWritten (Writes file body) w v =
     IsLeft file body (Some w.files) (Some v.files) × (v.rows ≡ w.rows)
 
@@ -28,7 +27,6 @@ abbrev pub HasBlamed : Change → Scene → Scene → Type 0
 HasBlamed Nothing before after = ⊥
 HasBlamed (Adds kind name body) before after = Rose before.rows_failed after.rows_failed
 HasBlamed (Removes kind name) before after = Rose before.rows_failed after.rows_failed
-HasBlamed (Replaces entries) before after = Rose before.rows_failed after.rows_failed
 HasBlamed (Writes file body) before after = Rose before.files_failed after.files_failed
 
 -- what becomes of a change between two scenes
@@ -72,7 +70,8 @@ Leaves decided w v files_failed (Err Outside) =
     ⊎ (files_failed × ((plan : Plan) × (decided ≡ Ok plan) × IsHalfWritten plan.change w v))
 
 -- the work of a request ends so
-pub record Ends (before after : Scene) (decide : World → Decided Plan) (ended : Ended) : Type 0 where
+pub record Ends (before after : Scene) (decide : World → Decided Plan) (ended : Ended)
+    : Type 0 where
   pub left : InWorld before after (λ w v.
       Leaves (decide w) w v (Rose before.files_failed after.files_failed) ended)
   pub cause : HaveCause before after (blames ended)

@@ -49,8 +49,8 @@ accepted None = Ok tt
 accepted (Some fault) = Err (faults.Certificate fault.line fault.reason)
 
 -- the fiber is to have no more tables than the limit
-abbrev pub within_limit : ℕ → List (List ℕ) → Result (Unit {0}) NumbersFault
-within_limit limit fiber =
+abbrev pub small_enough : ℕ → List (List ℕ) → Result (Unit {0}) NumbersFault
+small_enough limit fiber =
     if nat_lt limit (length fiber) then Err (faults.TooLarge (limit + 1)) else Ok tt
 
 -- its summed weight is to be below 2^128
@@ -60,7 +60,7 @@ narrow fraction = if nat_lt fraction.whole (2 ^ 128) then Ok fraction else Err f
 -- the exact p-value of a table, of whose fiber no more than the limit is listed
 abbrev pub tested : ℕ → Design → Weighting → List ℕ → Result Fraction NumbersFault
 tested limit matrix measure observed = do
-  few ← within_limit limit (fiber_of matrix observed)
+  few ← small_enough limit (fiber_of matrix observed)
   narrow (exact_p_value matrix measure observed)
 
 -- the sizes of rings, the weight of the observed table, and the p-value

@@ -12,15 +12,10 @@ use Rattle.mb_desk.specs.declared.parts.Part.{Part}
 use Rattle.mb_desk.specs.declared.parts.Part.TheVariants as parts
 use Rattle.mb_desk.specs.declared.plans.Change.TheVariants.{Writes}
 use Rattle.mb_desk.specs.declared.plans.Plan.{Plan}
-use Rattle.mb_matrix.specs.Matrix.{Design, rows_in}
-use Rattle.mb_moves.specs.Written.{written}
+use Rattle.mb_moves.specs.Written.{matrix_file, written}
 use Rattle.mb_outside.specs.Rows.{Rows}
 use Rattle.mb_registry.specs.Looking.{basis_named, dataset_named, model_named}
 use Rattle.mb_tables.specs.Answers.{◌>>=◌}
-
--- the matrix file of a design matrix
-abbrev pub matrix_file : Design → List ℕ
-matrix_file matrix = written (record { width = length matrix.columns; rows = rows_in matrix })
 
 -- the move file of the moves of a certificate
 abbrev pub moves_file : Certificate → List ℕ

@@ -64,8 +64,8 @@ pub record AnswersMoves (held : Held) (words : MovesWords) (answer : List ℕ) :
   pub printed : answer ≡ moves_line (length moves.rows)
 
 -- `reach`: the first file is a design matrix, each row of the second is a move of it, and the third
--- is a table; ring k has the tables at distance k from it; exactly the tables that the moves join to
--- it are printed, each once, ring by ring, and they are no more than the limit
+-- is a table; ring k has the tables at distance k from it; exactly the tables that the moves join
+-- to it are printed, each once, ring by ring, and they are no more than the limit
 pub record AnswersReach (held : Held) (words : ReachWords) (answer : List ℕ) : Type 0 where
   pub matrix : Rows
   pub moves : Rows
@@ -83,8 +83,8 @@ pub record AnswersReach (held : Held) (words : ReachWords) (answer : List ℕ) :
   pub few : length (tables_of rings) ≤ words.limit
   pub printed : answer ≡ ring_table_of rings
 
--- `check`: the file holds the one text of a valid certificate, whose moves are a Markov basis of its
--- matrix; the numbers of its rules, moves and joins are printed
+-- `check`: the file holds the one text of a valid certificate, whose moves are a Markov basis of
+-- its matrix; the numbers of its rules, moves and joins are printed
 pub record AnswersCheck (held : Held) (name answer : List ℕ) : Type 0 where
   pub certificate : Certificate
   pub there : get held name ≡ Some (text_of certificate)
@@ -93,8 +93,9 @@ pub record AnswersCheck (held : Held) (name answer : List ℕ) : Type 0 where
   pub basis : IsMarkovBasis certificate.matrix certificate.moves
   pub printed : answer ≡ joins_line certificate
 
--- `generate`: under independence, the exact test of the 4 x 4 table of the seed by the moves of some
--- valid certificate; the table is printed, how many tables its fiber has, and its exact p-value
+-- `generate`: under independence, the exact test of the 4 x 4 table of the seed by the moves of
+-- some valid certificate; the table is printed, how many tables its fiber has, and its exact
+-- p-value
 pub record AnswersGenerate (seed : ℕ) (answer : List ℕ) : Type 0 where
   pub certificate : Certificate
   pub rings : List Ring

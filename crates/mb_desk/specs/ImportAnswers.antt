@@ -15,9 +15,9 @@ use Rattle.mb_registry.specs.declared.kinds.Kind.TheVariants.{Basis}
 use Rattle.mb_tables.specs.Rows.{Rows}
 
 -- `import`: the text of the file says moves that are a Markov basis of the matrix of the named
--- basis. The certificate that is kept is valid, and is that of the named basis with these moves and,
--- for each rule without symbols of margins, the least path that they have; its model is the same.
--- Its numbers of rules and moves are printed
+-- basis. The certificate that is kept is valid, and is that of the named basis with these moves
+-- and, for each rule without symbols of margins, the least path that they have; its model is the
+-- same. Its numbers of rules and moves are printed
 pub record AnswersImport (w v : World) (words : ImportWords) (answer : List ℕ) : Type 0 where
   pub text : List ℕ
   pub moves : Rows

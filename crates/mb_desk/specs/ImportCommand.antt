@@ -1,5 +1,5 @@
--- The command `import`: moves of a file are proved a Markov basis beside the certificate of a basis,
--- and kept with it as a new one.
+-- The command `import`: moves of a file are proved a Markov basis beside the certificate of a
+-- basis, and kept with it as a new one.
 use Rattle.std.specs.FinMap.{get}
 use Rattle.std.specs.Prelude.{Err, List, None, Ok, Option, Some, [], if◌then◌else◌, length, nat_eq, nat_lt, suc, ℕ, ℤ, ◌+◌, ◌∷◌}
 use Rattle.mb_certificate.specs.Certificate.{Certificate, Path}
@@ -66,9 +66,9 @@ all_moves matrix row (move ∷ moves) =
 abbrev pub too_large : ℕ → ℕ → Decided Path
 too_large limit k = Err (refusals.TooLargeRule k (limit + 1))
 
--- the path of rule k, where there is one: the tables that are no farther from its left side than the
--- right one are to be within the limit. Where there is none, all reached tables have to be, and then
--- the moves are no Markov basis
+-- the path of rule k, where there is one: the tables that are no farther from its left side than
+-- the right one are to be within the limit. Where there is none, all reached tables have to be, and
+-- then the moves are no Markov basis
 abbrev pub path_by : ℕ → Certificate → List (List ℤ) → ℕ → Option (List ℤ) → Decided Path
 path_by limit c moves k (Some steps) =
     if nat_lt limit (length (ball c.matrix moves (left_table c k) (length steps)))
@@ -79,8 +79,8 @@ path_by limit c moves k None =
     then too_large limit k
     else Err (refusals.NotBasis k (left_table c k) (right_table c k))
 
--- the path of rule k: the least one from its left side to its right one, of which no table is farther
--- than the last ring
+-- the path of rule k: the least one from its left side to its right one, of which no table is
+-- farther than the last ring
 unfoldable pub path_of : ℕ → Certificate → List (List ℤ) → ℕ → Decided Path
 path_of limit c moves k =
     path_by limit c moves k

@@ -12,6 +12,7 @@ pub mod Decision
 pub mod Ends
 pub mod ExactTest
 pub mod ExportCommand
+pub mod Forms
 pub mod GenerateCommand
 pub mod Headline
 pub mod ImportAnswers
@@ -27,6 +28,7 @@ pub mod ModelCommand
 pub mod ModelKeys
 pub mod MovesCommand
 pub mod Needs
+pub mod Options
 pub mod Parts
 pub mod Plans
 pub mod ReachCommand

@@ -3,7 +3,7 @@ use Rattle.std.specs.FinMap.{empty}
 use Rattle.std.specs.Prelude.{None, Option, Some}
 use Rattle.mb_desk.specs.Decision.{Scene}
 use Rattle.mb_desk.specs.declared.plans.Change.{Change}
-use Rattle.mb_desk.specs.declared.plans.Change.TheVariants.{Adds, Nothing, Removes, Replaces, Writes}
+use Rattle.mb_desk.specs.declared.plans.Change.TheVariants.{Adds, Nothing, Removes, Writes}
 use Rattle.mb_outside.specs.Files.{Held}
 use Rattle.mb_outside.specs.Rows.{Rows}
 
@@ -48,15 +48,12 @@ Touches Both change = Unit {0}
 Touches FilesAlone Nothing = Unit {0}
 Touches FilesAlone (Adds kind name body) = ⊥
 Touches FilesAlone (Removes kind name) = ⊥
-Touches FilesAlone (Replaces entries) = ⊥
 Touches FilesAlone (Writes file body) = Unit {0}
 Touches RowsAlone Nothing = Unit {0}
 Touches RowsAlone (Adds kind name body) = Unit {0}
 Touches RowsAlone (Removes kind name) = Unit {0}
-Touches RowsAlone (Replaces entries) = Unit {0}
 Touches RowsAlone (Writes file body) = ⊥
 Touches Neither Nothing = Unit {0}
 Touches Neither (Adds kind name body) = ⊥
 Touches Neither (Removes kind name) = ⊥
-Touches Neither (Replaces entries) = ⊥
 Touches Neither (Writes file body) = ⊥

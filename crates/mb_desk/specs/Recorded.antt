@@ -42,7 +42,8 @@ change_refusal kind name faults.OutOfMemory = refusals.TooWide
 abbrev pub registry_stop : (RegistryFault → Refusal) → RegistryFault → Stop
 registry_stop refusal faults.Keeper = stops.Outside
 registry_stop refusal faults.OutOfMemory = stops.Memory
-registry_stop refusal (faults.Unknown kind name) = stops.Refused (refusal (faults.Unknown kind name))
+registry_stop refusal (faults.Unknown kind name) =
+    stops.Refused (refusal (faults.Unknown kind name))
 registry_stop refusal (faults.InUse by) = stops.Refused (refusal (faults.InUse by))
 registry_stop refusal (faults.Conflict kept) = stops.Refused (refusal (faults.Conflict kept))
 registry_stop refusal (faults.BadRecord kind name) =

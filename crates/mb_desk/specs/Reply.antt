@@ -47,10 +47,11 @@ MayReply ended reply =
 -- the reply is put whole, and its status is answered
 abbrev pub PutsWhole : Option (List ℕ) → Option (List ℕ) → ℕ → ℕ → Reply → Status → Type 0
 PutsWhole before after failed_before failed_after reply status =
-    (status ≡ reply.status) × Grows before after reply.text × HasCause failed_before failed_after false
+    (status ≡ reply.status) × Grows before after reply.text
+    × HasCause failed_before failed_after false
 
--- or the put fails: the count of the sink's faults rises, a front of the text is put, and the status
--- is that of a fault
+-- or the put fails: the count of the sink's faults rises, a front of the text is put, and the
+-- status is that of a fault
 abbrev pub PutsFront : Option (List ℕ) → Option (List ℕ) → ℕ → ℕ → Reply → Status → Type 0
 PutsFront before after failed_before failed_after reply status =
     (status ≡ statuses.Outside) × GrowsByFront before after reply.text

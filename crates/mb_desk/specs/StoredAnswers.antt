@@ -7,7 +7,7 @@ use Rattle.mb_data.specs.CrossTable.{CrossTable}
 use Rattle.mb_data.specs.DatasetText.{dataset_of}
 use Rattle.mb_data.specs.Written.{written}
 use Rattle.mb_desk.specs.DatasetCommand.{cells_line}
-use Rattle.mb_desk.specs.ExportCommand.{matrix_file, moves_file, wrote_line}
+use Rattle.mb_desk.specs.ExportCommand.{moves_file, wrote_line}
 use Rattle.mb_desk.specs.ModelCommand.{margins_line}
 use Rattle.mb_desk.specs.Recorded.{added_line}
 use Rattle.mb_desk.specs.RemoveCommand.{removed_line}
@@ -18,6 +18,7 @@ use Rattle.mb_desk.specs.declared.requests.ModelWords.{ModelWords}
 use Rattle.mb_kinds.specs.Kinds.{model_of}
 use Rattle.mb_kinds.specs.Model.{ModelValue}
 use Rattle.mb_kinds.specs.Record.{written_record}
+use Rattle.mb_moves.specs.Written.{matrix_file}
 use Rattle.mb_outside.specs.Files.{Held}
 use Rattle.mb_outside.specs.Rows.{Rows}
 use Rattle.mb_registry.specs.Bodies.{basis_text, model_record}
@@ -38,7 +39,8 @@ use Rattle.mb_reports.specs.Report.{IsReport, Report, report_text}
 pub record IsKept (kind : Kind) (name body lines : List ℕ) (before after : Rows)
     (answer : List ℕ) : Type 0 where
   pub there : get after (key_of kind name) ≡ Some body
-  pub said : ((get before (key_of kind name) ≡ None) × (answer ≡ added_line Stored kind name ++ lines))
+  pub said : ((get before (key_of kind name) ≡ None)
+      × (answer ≡ added_line Stored kind name ++ lines))
       ⊎ ((get before (key_of kind name) ≡ Some body)
       × (answer ≡ added_line Unchanged kind name ++ lines))
 
@@ -101,7 +103,8 @@ pub record AnswersList (rows : Rows) (answer : List ℕ) : Type 0 where
 -- a text is what is written of the basis of a name
 abbrev pub IsOfBasis : Rows → List ℕ → List ℕ → (Certificate → List ℕ) → Type 0
 IsOfBasis rows name text write =
-    (model : List ℕ) × (c : Certificate) × HasBasis rows name model c × AreParts c × (text ≡ write c)
+    (model : List ℕ) × (c : Certificate) × HasBasis rows name model c × AreParts c
+    × (text ≡ write c)
 
 -- a text is the CSV of a dataset that is kept, the matrix file of a model, or of a basis the move
 -- file, the certificate or the rules

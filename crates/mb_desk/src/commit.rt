@@ -1,19 +1,28 @@
 //! The one change of a command.
-ghost use Rattle.std.specs.Prelude.{Err};
-ghost use Rattle.mb_desk.specs.Changes.{ChangesRows, WritesFile};
+ghost use Rattle.std.specs.Prelude.{◌≡◌, Err};
+ghost use Rattle.mb_desk.specs.Changes.{ChangesRows, WritesFile, keep_stop};
 ghost use Rattle.mb_desk.specs.Decision.{blames, scene};
 ghost use Rattle.mb_desk.specs.Ends.{Commits};
-ghost use Rattle.mb_desk.specs.declared.plans.Change.TheVariants.{Adds, Removes, Replaces};
+ghost use Rattle.mb_desk.specs.declared.plans.Change.TheVariants.{Adds, Removes};
 ghost use Rattle.mb_outside.specs.Causes.{HasCause};
 ghost use Rattle.mb_outside.specs.Told.{WhereTold};
 
 use crate::plans::{Change, Stop};
 use crate::refusals::Refusal;
-use crate::rows::AllRows;
 use crate::texts::Word;
 use mb_outside::{FileFault, Files, KeepFault, Keeper};
 use mb_registry::{Body, Kind, Text};
 use std::alloc::Global;
+
+/// Why the work stops for a fault of the keeper.
+fn keep_stop(fault: KeepFault) -> Stop
+    ensures { result ≡ keep_stop fault }
+{
+    match fault {
+        KeepFault::Failed => Stop::Outside,
+        KeepFault::OutOfMemory => Stop::Memory,
+    }
+}
 
 /// Adds a row. Where the plan saw none, there is one only if another hand put it there meanwhile.
 fn add_row<K: Keeper>(
@@ -33,8 +42,7 @@ fn add_row<K: Keeper>(
             kind,
             name: Text::copy_of(alloc, name.as_str())?,
         })),
-        Err(KeepFault::Failed) => Err(Stop::Outside),
-        Err(KeepFault::OutOfMemory) => Err(Stop::Memory),
+        Err(fault) => Err(keep_stop(fault)),
     }
 }
 
@@ -55,21 +63,7 @@ fn take_row<K: Keeper>(
             kind,
             name: Text::copy_of(alloc, name.as_str())?,
         })),
-        Err(KeepFault::Failed) => Err(Stop::Outside),
-        Err(KeepFault::OutOfMemory) => Err(Stop::Memory),
-    }
-}
-
-/// Replaces all rows.
-fn replace_rows<K: Keeper>(keeper: &mut K, rows: &AllRows) -> Result<(), Stop>
-    ensures made { WhereTold (K.rows keeper.old) (K.rows keeper.new)
-        (λ before after. ChangesRows (Replaces rows.now) before after result) }
-    ensures cause { HasCause (K.faults keeper.old) (K.faults keeper.new) (blames result) }
-{
-    match keeper.replace_all(rows.as_slice()) {
-        Ok(()) => Ok(()),
-        Err(KeepFault::Failed) => Err(Stop::Outside),
-        Err(KeepFault::OutOfMemory) => Err(Stop::Memory),
+        Err(fault) => Err(keep_stop(fault)),
     }
 }
 
@@ -103,7 +97,6 @@ pub fn commit<F: Files, K: Keeper>(
         Change::Nothing => Ok(()),
         Change::Adds { kind, name, body } => add_row(alloc, keeper, *kind, name, body),
         Change::Removes { kind, name } => take_row(alloc, keeper, *kind, name),
-        Change::Replaces { rows } => replace_rows(keeper, rows),
         Change::Writes { file, body } => write_file(files, file, body),
     }
 }

@@ -10,8 +10,8 @@ ghost use Rattle.mb_desk.specs.ExactTest.{
   numbers_cause,
   numbers_in,
   numbers_of,
+  small_enough,
   weighed_fraction,
-  within_limit,
 };
 ghost use Rattle.mb_matrix.specs.Key.{digits_of};
 ghost use Rattle.mb_matrix.specs.Matrix.{fiber_of, margins_of};
@@ -47,7 +47,8 @@ pub struct Figures {
     pub below: u128,
     /// The summed weight of all tables of the fiber.
     pub whole: u128,
-    /// The root of the claims by which the tables were found, which is closed, where they have keys.
+    /// The root of the claims by which the tables were found, which is closed, where they have
+    /// keys.
     pub claims: Option<Root>,
 }
 
@@ -115,7 +116,7 @@ fn walk_fiber<R: Threads + Sync, G: Gate + Sync>(
     requires some_worker { 1 ≤ workers }
     requires few_workers { workers ≤ 64 }
     ensures few { Gives numbers_cause (λ rings. tt) result
-        (within_limit limit (fiber_of certificate.now.matrix observed.now)) }
+        (small_enough limit (fiber_of certificate.now.matrix observed.now)) }
     ensures rings { IfOk result (λ walked.
         walked.rings ≡ rings_of certificate.now.matrix certificate.now.moves observed.now) }
     ensures claims { IfOk result (AreClaims
@@ -177,9 +178,10 @@ fn sizes_of(alloc: Global, rings: &Rings) -> Result<Vec<u32>, AllocError>
 /// walked by its moves, and the weights of the tables are summed.
 ///
 /// The table has the cells of the certificate's matrix, and each of its margins fits 32 bits. The
-/// measure is one on this matrix. The limit is 1 to 2,000,000 tables, and the walk is done by 1 to 64
-/// workers, which pass the gate before each table. The figures are the same for any number of them;
-/// where the tables of the fiber have keys of 64 bits, they have the root of the claims of these keys.
+/// measure is one on this matrix. The limit is 1 to 2,000,000 tables, and the walk is done by 1 to
+/// 64 workers, which pass the gate before each table. The figures are the same for any number of
+/// them; where the tables of the fiber have keys of 64 bits, they have the root of the claims of
+/// these keys.
 ///
 /// Refused are, in this order: a certificate with a wrong line (`Certificate`), a fiber of more
 /// tables than the limit (`TooLarge`), and weights that add up to 2^128 or more (`TooWide`). Want

@@ -1,6 +1,10 @@
 //! Laws of the decisions, each the contract of a function that does nothing.
 ghost use Rattle.mb_desk.specs.Calls.{CallsAreReplayed, RepeatsAlike};
-ghost use Rattle.mb_desk.specs.SoundLaws.{RepeatsAreUnchanged, SoundIsNotRefused, StepsKeepSoundness};
+ghost use Rattle.mb_desk.specs.SoundLaws.{
+  RepeatsAreUnchanged,
+  SoundIsNotRefused,
+  StepsKeepSoundness,
+};
 
 /// Law: whatever calls were made, the world that they leave is the one after the requests that were
 /// accepted, in order.

@@ -12,6 +12,7 @@ mod laws;
 mod limits;
 mod lines;
 mod model_keys;
+mod options;
 mod parts;
 mod plans;
 mod reading;
@@ -20,7 +21,6 @@ mod records;
 mod refusals;
 mod reply;
 mod requests;
-mod rows;
 mod start;
 mod status;
 mod texts;
@@ -41,7 +41,6 @@ pub use refusals::Refusal;
 pub use requests::{
     AnalyseWords, BasisWords, ImportWords, ModelWords, MovesWords, ReachWords, Request,
 };
-pub use rows::AllRows;
 pub use status::Status;
 pub use texts::{NameWord, Word};
 pub use top::desk;

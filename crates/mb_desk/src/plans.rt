@@ -3,7 +3,6 @@ ghost use Rattle.std.specs.Prelude.{◌≡◌};
 ghost use Rattle.mb_desk.specs.declared.plans.Stop.TheVariants.{Memory};
 
 use crate::refusals::Refusal;
-use crate::rows::AllRows;
 use crate::texts::Word;
 use mb_registry::{Body, Kind};
 use mb_tables::OutOfMemory;
@@ -24,10 +23,6 @@ pub enum Change<'a> {
     Removes {
         kind: Kind,
         name: Word<'a>,
-    },
-    /// All rows are replaced by these.
-    Replaces {
-        rows: AllRows,
     },
     /// A file is written.
     Writes {

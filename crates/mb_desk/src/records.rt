@@ -3,7 +3,17 @@ ghost use Rattle.std.specs.Option.{option_map};
 ghost use Rattle.std.specs.Prelude.{◌≡◌, ◌++◌, IfOk};
 ghost use Rattle.mb_desk.specs.Decision.{DoesRows};
 ghost use Rattle.mb_desk.specs.Needs.{RowsAlone, Touches};
-ghost use Rattle.mb_desk.specs.Recorded.{added_change, added_line, added_to, added_word, change_refusal, found, kept_plan, look_refusal, registry_stop};
+ghost use Rattle.mb_desk.specs.Recorded.{
+  added_change,
+  added_line,
+  added_to,
+  added_word,
+  change_refusal,
+  found,
+  kept_plan,
+  look_refusal,
+  registry_stop,
+};
 ghost use Rattle.mb_desk.specs.RemoveCommand.{removable};
 ghost use Rattle.mb_registry.specs.Looking.{basis_named, dataset_named, model_named};
 

@@ -15,8 +15,8 @@ use std::alloc::{AllocError, Global};
 
 /// Why a request is refused. Each comes exactly where the decision says so: want of memory and
 /// faults of the outside are no refusals. The file words of a command count from 1, tokens of a
-/// file from 1 with the two sizes included, rows of a move file and lines of a text from 1, and rows
-/// and cells of a matrix and rules of a completion from 0.
+/// file from 1 with the two sizes included, rows of a move file and lines of a text from 1, and
+/// rows and cells of a matrix and rules of a completion from 0.
 #[derive(Drop)]
 pub enum Refusal {
     /// There is no such file.

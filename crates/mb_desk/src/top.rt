@@ -8,7 +8,8 @@ ghost use Rattle.mb_desk.specs.Ends.{EachLeft};
 ghost use Rattle.mb_desk.specs.Headline.{Answers};
 ghost use Rattle.mb_desk.specs.Reply.{EndsAndPuts, Puts, no_request};
 ghost use Rattle.mb_desk.specs.Sound.{AreSound};
-ghost use Rattle.mb_desk.specs.Words.{request_of, texts};
+ghost use Rattle.mb_desk.specs.Forms.{texts};
+ghost use Rattle.mb_desk.specs.Words.{request_of};
 ghost use Rattle.mb_desk.specs.declared.plans.Plan.{Plan};
 ghost use Rattle.mb_desk.specs.declared.plans.Stop.{Stop};
 ghost use Rattle.mb_outside.specs.Causes.{Rose};
@@ -61,7 +62,8 @@ pub fn desk<R: Threads + Sync, F: Files, K: Keeper, S: Sink, G: Gate + Sync>(
         (scene_for request
         (F.held files.new) (F.faults files.new) (K.rows keeper.new) (K.faults keeper.new))
         (λ before after. (plan : Plan) × (plan_of request before ≡ Ok plan)
-        × (after ≡ changed plan.change before) × Grows (S.taken out.old) (S.taken out.new) plan.answer)) }
+        × (after ≡ changed plan.change before)
+        × Grows (S.taken out.old) (S.taken out.new) plan.answer)) }
     ensures means { result ≡ Status.Done → IfSome (request_of (texts words.now)) (λ request. InWorld
         (scene_for request
         (F.held files.old) (F.faults files.old) (K.rows keeper.old) (K.faults keeper.old))

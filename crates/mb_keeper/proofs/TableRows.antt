@@ -1,22 +1,22 @@
 -- Rows of the table that share neither number nor key: what a look-up, an insertion and a deletion
 -- make of them.
 use Rattle.std.proofs.Common.{Bool, Equal, Greater, Less, List, None, Option, Some, [], ap, cond, false, is_some, not, refl, subst, sym, true, true≢false, ℕ, ℤ, ◌&&◌, ◌||◌, ◌∙◌, ◌∷◌, ◌≡◌, map}
-use Rattle.std.proofs.lemmas.Bool.{and_from, and_parts, not-true}
+use Rattle.std.proofs.lemmas.Bool.{and_from, and_parts, not-true, or_parts}
 use Rattle.std.proofs.lemmas.Cmp.{eq_by_cmp_equiv}
+use Rattle.std.proofs.lemmas.List.Sorted.{list_any-IsPermutation}
 use Rattle.std.specs.Cmp.{Equal-is, tied_itself}
 use Rattle.std.specs.FinMap.{find}
 use Rattle.std.specs.List.{filter, filter_map, list_all, list_any}
 use Rattle.std.specs.List.Sorted.{IsPermutation}
-use Rattle.std.proofs.lemmas.List.Sorted.{list_any-IsPermutation}
 use Rattle.std.specs.Ordering.{eq_by_cmp, is_eq, match_ordering}
+use Rattle.mb_keeper.specs.RowsInTable.{are_apart, are_kept, entry, same_key}
 use Rattle.mb_outside.proofs.KeptRows.{exact_keys, keys_total}
 use Rattle.mb_outside.specs.Rows.{Key, key_cmp}
-use Rattle.sqlite.specs.declared.types.Value.TheVariants.{Int}
+use Rattle.sqlite.specs.Edit.{id_in, is_taken, without_all}
 use Rattle.sqlite.specs.Order.{Row, value_cmp}
 use Rattle.sqlite.specs.Tree.{put_row, rowid, has_rowid, without_rowid}
-use Rattle.sqlite.specs.Edit.{id_in, is_taken, without_all}
+use Rattle.sqlite.specs.declared.types.Value.TheVariants.{Int}
 use Rattle.sqlite_value.proofs.OrderLemmas.{value_cmp_total}
-use Rattle.mb_keeper.specs.RowsInTable.{are_apart, are_kept, entry, same_key}
 
 -- a row as its key and body
 abbrev pub Entry : Type 0
@@ -126,11 +126,6 @@ picked q (row ∷ rows) kept =
               one_row other e (rw has is) pair same (found ∙ there)
         ]
 
--- of two tests of which none holds, neither does
-or_false : (a b : Bool) → (a || b) ≡ false → (a ≡ false) × (b ≡ false)
-or_false true b e = absurd (true≢false e)
-or_false false b e = (refl, e)
-
 -- a look-up that finds nothing passed the first entry over
 passed : (q : Key) (row : Row) (rows : List Row) (e : Entry) → entry row ≡ Some e
     → find key_cmp q (entries (row ∷ rows)) ≡ None
@@ -165,7 +160,7 @@ pub find_put : (new : Row) (e : Entry) (rows : List Row) → entry new ≡ Some 
 find_put new e [] is free kept absent q = find_first q new [] e is
 find_put new e (row ∷ rows) is free kept absent q =
     let k = kept_before row rows kept in
-    let split = or_false _ _ free in
+    let split = or_parts _ _ free in
     let steps = passed e.0 row rows k.pair k.is absent in
     let below = find_put new e rows is split.1 k.others steps.1 q in
     elim (value_cmp (rowid row) (rowid new)) as (λ o. is_eq o ≡ false →
@@ -205,7 +200,7 @@ apart_from_all : (new : Row) (e : Entry) (rows : List Row) → entry new ≡ Som
 apart_from_all new e [] is free kept absent = refl
 apart_from_all new e (row ∷ rows) is free kept absent =
     let k = kept_before row rows kept in
-    let split = or_false _ _ free in
+    let split = or_parts _ _ free in
     let steps = passed e.0 row rows k.pair k.is absent in
     let numbers : is_eq (value_cmp (rowid new) (rowid row)) ≡ false =
     (eq_by_cmp_equiv value_cmp_total).symm (rowid new) (rowid row) ∙ split.0 in
@@ -234,7 +229,7 @@ unfolding are_kept
 kept_put new e [] is free kept absent = rw is refl
 kept_put new e (row ∷ rows) is free kept absent =
     let k = kept_before row rows kept in
-    let split = or_false _ _ free in
+    let split = or_parts _ _ free in
     let steps = passed e.0 row rows k.pair k.is absent in
     let far = apart_from_all new e (row ∷ rows) is free kept absent in
     let below = kept_put new e rows is split.1 k.others steps.1 in

@@ -37,20 +37,6 @@ cached-there (x ∷ xs) (suc k) key l =
     on_true (nat_eq (slice_index_or xs k 0) key) (In key xs) (In key (x ∷ xs)) (λ i. inr i)
     (cached-there xs k key (omega arith))
 
--- the same where others follow it
-pub cached-front : (xs ys : List ℕ) (k key : ℕ) → k < length xs →
-    OnTrue (nat_eq (slice_index_or xs k 0) key) (In key (xs ++ ys))
-cached-front xs ys k key l =
-    on_true (nat_eq (slice_index_or xs k 0) key) (In key xs) (In key (xs ++ ys))
-    (In-left key xs ys) (cached-there xs k key l)
-
--- or precede it
-pub cached-back : (xs ys : List ℕ) (k key : ℕ) → k < length ys →
-    OnTrue (nat_eq (slice_index_or ys k 0) key) (In key (xs ++ ys))
-cached-back xs ys k key l =
-    on_true (nat_eq (slice_index_or ys k 0) key) (In key ys) (In key (xs ++ ys))
-    (In-right key xs ys) (cached-there ys k key l)
-
 -- what stands in a list of which one place was set
 pub In-set : (xs : List ℕ) (k y x : ℕ) → In x (slice_set xs k y) → In x xs ⊎ (x ≡ y)
 unfolding In
@@ -59,16 +45,6 @@ In-set (z ∷ xs) zero y x (inl e) = inr e
 In-set (z ∷ xs) zero y x (inr i) = inl (inr i)
 In-set (z ∷ xs) (suc k) y x (inl e) = inl (inl e)
 In-set (z ∷ xs) (suc k) y x (inr i) = ⊎_elim (λ h. inl (inr h)) (λ e. inr e) (In-set xs k y x i)
-
--- what is put into the first of two lists
-pub put-front : (old new ys : List ℕ) (key : ℕ) →
-    ((k : ℕ) → In k new → In k old ⊎ (k ≡ key)) →
-    (k : ℕ) → In k (new ++ ys) → In k (old ++ ys) ⊎ (k ≡ key)
-put-front old new ys key put k i =
-    ⊎_elim
-    (λ front. ⊎_elim (λ there. inl (In-left k old ys there)) (λ e. inr e) (put k front))
-    (λ back. inl (In-right k old ys back))
-    (In-cases k new ys i)
 
 -- one key more is listed
 pub unknown-one : (cache keys unknown : List ℕ) (x : ℕ) → AreUnknown cache keys unknown →

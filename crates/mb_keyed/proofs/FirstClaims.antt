@@ -13,7 +13,8 @@ use Rattle.mb_tables.proofs.ListLaws.{In-left}
 use Rattle.mb_tables.specs.Lists.{In}
 
 module _ (sizes : List ℕ) (key : ℕ) (before after : PassView)
-    (first old new : RootView) (begun : before ≡ begins first) (empty : old.gathered ≡ []) (is : new ≡ gathers old after)
+    (first old new : RootView) (begun : before ≡ begins first) (empty : old.gathered ≡ [])
+    (is : new ≡ gathers old after)
     (closed : IsClosed new) (some : 1 ≤ slice_index sizes (shard_of sizes key)) where
   -- nothing is gathered where nothing was won
   nothing : after.won ≡ before.won → new.gathered ≡ []

@@ -1,7 +1,7 @@
 -- What rounds find, one after another.
 use Rattle.std.proofs.Common.{List, [], false, inl, inr, refl, reverse, subst, sym, ℕ, ◌++◌, ◌∷◌, ◌≡◌, ◌↔◌, ◌⊎◌, ⊎_elim}
 use Rattle.std.proofs.lemmas.List.{reverse-append}
-use Rattle.mb_claims.specs.Lists.{AreDistinct}
+use Rattle.mb_claims.specs.Lists.{AreDistinctKeys}
 use Rattle.mb_keyed.specs.loops.Keyed.{AreFound}
 use Rattle.mb_keyed.specs.loops.Rounds.{IsRound}
 use Rattle.mb_keyed.specs.declared.gathered.Left.{Left}
@@ -9,12 +9,12 @@ use Rattle.mb_tables.proofs.ListLaws.{In-cases, In-left, In-right}
 use Rattle.mb_tables.specs.Lists.{In}
 
 -- the first of two lists of distinct numbers
-distinct-first : (xs ys : List ℕ) → AreDistinct (xs ++ ys) → AreDistinct xs
+distinct-first : (xs ys : List ℕ) → AreDistinctKeys (xs ++ ys) → AreDistinctKeys xs
 distinct-first [] ys d = tt
 distinct-first (x ∷ xs) ys d = ((λ i. d.0 (In-left x xs ys i)), distinct-first xs ys d.1)
 
 -- they have no number in common
-distinct-parts : (xs ys : List ℕ) → AreDistinct (xs ++ ys) → (n : ℕ) → In n xs → In n ys → ⊥
+distinct-parts : (xs ys : List ℕ) → AreDistinctKeys (xs ++ ys) → (n : ℕ) → In n xs → In n ys → ⊥
 unfolding In
 distinct-parts [] ys d n i j = i
 distinct-parts (x ∷ xs) ys d n (inl e) j =
@@ -22,8 +22,8 @@ distinct-parts (x ∷ xs) ys d n (inl e) j =
 distinct-parts (x ∷ xs) ys d n (inr i) j = distinct-parts xs ys d.1 n i j
 
 -- two lists of distinct numbers that have none in common
-pub distinct-both : (xs ys : List ℕ) → AreDistinct xs → AreDistinct ys →
-    ((n : ℕ) → In n xs → In n ys → ⊥) → AreDistinct (xs ++ ys)
+pub distinct-both : (xs ys : List ℕ) → AreDistinctKeys xs → AreDistinctKeys ys →
+    ((n : ℕ) → In n xs → In n ys → ⊥) → AreDistinctKeys (xs ++ ys)
 unfolding In
 distinct-both [] ys d e h = e
 distinct-both (x ∷ xs) ys d e h = (
@@ -57,11 +57,11 @@ reversed-In n (x ∷ xs) (inr i) =
     (In-left n (reverse xs) (x ∷ []) (reversed-In n xs i))
 
 -- its numbers are distinct where those of the list are
-distinct-reversed : (xs : List ℕ) → AreDistinct xs → AreDistinct (reverse xs)
+distinct-reversed : (xs : List ℕ) → AreDistinctKeys xs → AreDistinctKeys (reverse xs)
 unfolding In
 distinct-reversed [] d = tt
 distinct-reversed (x ∷ xs) d =
-    subst AreDistinct (sym (reverse-one x xs))
+    subst AreDistinctKeys (sym (reverse-one x xs))
     (distinct-both (reverse xs) (x ∷ []) (distinct-reversed xs d.1) ((λ i. i), tt)
     (λ n i. ⊎_elim
     (λ e. d.0 (subst (λ m. In m xs) e (In-reversed n xs i)))
@@ -92,12 +92,13 @@ module _ (IsSought : ℕ → Type 0) (known : List ℕ) where
     all = λ key. ((λ i. (h.all key).0 ((same key).0 i)), (λ i. (same key).1 ((h.all key).1 i)));
   }
 
-  module _ (before after old new : List ℕ) (left : Left) (r : IsRound IsSought before after old new left)
+  module _ (before after old new : List ℕ) (left : Left)
+      (r : IsRound IsSought before after old new left)
     where
       -- a won key was not gathered
       won-new : (key : ℕ) → In key r.won → In key before → ⊥
       won-new key i j =
-          distinct-parts r.won before (subst AreDistinct r.gathered r.once) key i j
+          distinct-parts r.won before (subst AreDistinctKeys r.gathered r.once) key i j
 
       -- one round more
       pub found-round : AreFound IsSought known before old → left.is_short ≡ false →
@@ -108,7 +109,7 @@ module _ (IsSought : ℕ → Type 0) (known : List ℕ) where
               once =
                   distinct-both old (reverse r.won) h.fresh.once
                   (distinct-reversed r.won
-                  (distinct-first r.won before (subst AreDistinct r.gathered r.once)))
+                  (distinct-first r.won before (subst AreDistinctKeys r.gathered r.once)))
                   (λ key i j. won-new key (In-reversed key r.won j) ((h.all key).1 (inr i)));
               new = λ key i k. ⊎_elim
                   (λ j. h.fresh.new key j k)

@@ -3,8 +3,8 @@ use Rattle.std.proofs.Common.{List, [], ap, arith, cond, inl, inr, refl, subst, 
 use Rattle.std.proofs.lemmas.Bool.{cases_eq, eq-eqb, ne_eqb}
 use Rattle.std.proofs.lemmas.List.Sorted.{sum_by-IsPermutation}
 use Rattle.std.specs.List.Sorted.{IsPermutation}
-use Rattle.mb_claims.proofs.Occurrences.{AreDistinct-occurs, In-occurring, In-occurs, occurrences-cons, once_where}
-use Rattle.mb_claims.specs.Lists.{AreDistinct, occurrences}
+use Rattle.mb_claims.proofs.Occurrences.{AreDistinctKeys-occurs, In-occurring, In-occurs, occurrences-cons, once_where}
+use Rattle.mb_claims.specs.Lists.{AreDistinctKeys, occurrences}
 use Rattle.mb_tables.specs.Lists.{In}
 
 -- a key is as often in a list as in that list in another order
@@ -20,7 +20,7 @@ In-permuted key xs ys p i =
     In-occurring key ys (omega arith)
 
 -- a key stands at most once among distinct keys
-once-distinct : (key : ℕ) (xs : List ℕ) → AreDistinct xs → occurrences key xs ≤ 1
+once-distinct : (key : ℕ) (xs : List ℕ) → AreDistinctKeys xs → occurrences key xs ≤ 1
 once-distinct key [] d = omega arith
 once-distinct key (x ∷ xs) d =
     by (cases_eq x key) (occurrences key xs) refl (once-distinct key xs d.1)
@@ -37,8 +37,9 @@ once-distinct key (x ∷ xs) d =
         omega (arith, occurrences-cons key x xs)
 
 -- distinct keys in another order are distinct
-pub distinct-permuted : (xs ys : List ℕ) → IsPermutation xs ys → AreDistinct xs → AreDistinct ys
+pub distinct-permuted : (xs ys : List ℕ) → IsPermutation xs ys → AreDistinctKeys xs →
+    AreDistinctKeys ys
 distinct-permuted xs ys p d =
-    AreDistinct-occurs ys (λ key i.
+    AreDistinctKeys-occurs ys (λ key i.
     let same = occurrences-permuted key xs ys p in
     let once = once-distinct key xs d in omega arith)

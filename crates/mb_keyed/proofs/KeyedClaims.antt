@@ -104,7 +104,8 @@ pub claimed-key : (keys : List ℕ) (i : ℕ) (first second last : Worker) → i
 unfolding In
 claimed-key keys i first second last l f g =
     let more = take_more keys i 0 l in
-    claims-same (λ k. In k (take i keys) ⊎ (k ≡ at keys i)) (λ k. In k (take (i + 1) keys)) first last
+    claims-same (λ k. In k (take i keys) ⊎ (k ≡ at keys i)) (λ k. In k (take (i + 1) keys))
+    first last
     (λ k h. subst (In k) (sym more)
     (⊎_elim (λ j. In-left k (take i keys) (at keys i ∷ []) j)
     (λ e. In-right k (take i keys) (at keys i ∷ []) (inl e)) h))

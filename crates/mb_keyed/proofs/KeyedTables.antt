@@ -5,9 +5,9 @@ use Rattle.std.proofs.lemmas.List.{length-map}
 use Rattle.std.specs.Cmp.Lexicographic.{slice_cmp}
 use Rattle.std.specs.List.Sorted.{IsPermutation, IsSorted}
 use Rattle.std.specs.Ordering.{nat_cmp}
-use Rattle.mb_claims.specs.Lists.{AreDistinct as AreDistinctKeys}
+use Rattle.mb_claims.specs.Lists.{AreDistinctKeys}
 use Rattle.mb_keyed.proofs.KeyOrders.{In-permuted, distinct-permuted}
-use Rattle.mb_keyed.specs.loops.Keyed.{AreFound, Fiber, FindsKeyed, IsOfFiber, digits_in}
+use Rattle.mb_keyed.specs.loops.Keyed.{AreFound, FiberAt, FindsKeyed, IsOfFiber, digits_in}
 use Rattle.mb_matrix.proofs.Suits.{same_key}
 use Rattle.mb_matrix.specs.Ascending.{Ascends}
 use Rattle.mb_matrix.specs.Key.{key_of}
@@ -53,7 +53,7 @@ module _ (digits : List Digit) (found : List ℕ) (tables : List (List ℕ))
       ∙ length_permutation found (map (key_of digits) tables) p
 
 -- what is found of keys is found of tables
-pub finds-keyed : (fiber : Fiber) → IsDesign fiber.matrix → (IsSought : List ℕ → Type 0) →
+pub finds-keyed : (fiber : FiberAt) → IsDesign fiber.matrix → (IsSought : List ℕ → Type 0) →
     ((v : List ℕ) → IsSought v → IsOfFiber fiber v) →
     (before after found : List ℕ) (next : List (List ℕ)) →
     AreFound (IsKeyOf (digits_in fiber) IsSought) before after found → AreDistinctKeys after →

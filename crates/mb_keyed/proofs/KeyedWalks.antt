@@ -2,7 +2,7 @@
 use Rattle.std.proofs.Common.{All, List, [], ap, append-nil, arith, inl, inr, length, length-append, map, refl, subst, sym, ℕ, ℤ, ◌++◌, ◌+◌, ◌<◌, ◌^◌, ◌∙◌, ◌∷◌, ◌≡◌, ◌≤◌, ◌↔◌, ◌⊎◌, ⊎_elim}
 use Rattle.std.proofs.lemmas.List.Sorted.{IsPermutation-refl}
 use Rattle.std.proofs.lemmas.List.{length-map}
-use Rattle.mb_claims.specs.Lists.{AreDistinct as AreDistinctKeys}
+use Rattle.mb_claims.specs.Lists.{AreDistinctKeys}
 use Rattle.mb_keyed.proofs.KeyedTables.{distinct-from_keys}
 use Rattle.mb_keyed.specs.loops.Keyed.{FindsKeyed, IsKeyFault, IsOfFiber, fiber_at}
 use Rattle.mb_keyed.specs.loops.Worked.{HasKeyedSteps}

@@ -139,8 +139,10 @@ enough sign u (z ∷ move) k e h =
     let here = can_move sign (get_or u k 0) z parts.0 in
     let rest = enough sign u move (k + 1) (omega arith) parts.1 in
     subst (λ (cells : List ℕ). (v : List ℕ) × Moved sign cells (z ∷ move) v)
-    (sym (drop-here u k 0 (omega arith)))
-    (here.0 ∷ rest.0, moved-cons sign (get_or u k 0) here.0 z (drop (k + 1) u) rest.0 move here.1 rest.1)
+    (sym (drop-here u k 0 (omega arith))) (
+      here.0 ∷ rest.0,
+      moved-cons sign (get_or u k 0) here.0 z (drop (k + 1) u) rest.0 move here.1 rest.1,
+    )
 
 -- and only such a table
 wanted : (sign : Sign) (u : List ℕ) (move : List ℤ) (k : ℕ) → length u ≡ k + length move →

@@ -4,13 +4,13 @@ use Rattle.std.proofs.lemmas.List.Sorted.{IsPermutation-map, IsPermutation-trans
 use Rattle.std.proofs.lemmas.List.{ext_get_or, get_or-map, length-map}
 use Rattle.std.proofs.lemmas.Option.{get_or_from_slice_get}
 use Rattle.std.specs.List.Sorted.{IsPermutation}
-use Rattle.mb_keyed.specs.loops.Keyed.{Fiber, IsOfFiber, digits_in}
+use Rattle.mb_keyed.specs.loops.Keyed.{FiberAt, IsOfFiber, digits_in}
 use Rattle.mb_keyed.specs.loops.ReadRing.{AreReadAs, IsReadAt}
 use Rattle.mb_matrix.specs.Key.{key_of}
 use Rattle.mb_tables.proofs.ListLaws.{In-place, place-within}
 use Rattle.mb_tables.specs.Vectors.{at}
 
-module _ (fiber : Fiber) (order : List ℕ) (tables : List (List ℕ)) where
+module _ (fiber : FiberAt) (order : List ℕ) (tables : List (List ℕ)) where
   -- where no table is without cells, all are read
   pub all-read : length tables ≡ length order →
       ((k : ℕ) (d : List ℕ) → k < length order → IsReadAt fiber order k (get_or tables k d)) →

@@ -2,7 +2,7 @@
 use Rattle.std.proofs.Common.{List, Some, [], ap, arith, drop, inl, inr, length, length-append, refl, slice_get, subst, suc, sym, take, zero, ℕ, ℤ, ◌++◌, ◌+◌, ◌-◌, ◌<◌, ◌∙◌, ◌∷◌, ◌≡◌, ◌≤◌, ◌⊎◌, ⊎_elim}
 use Rattle.std.proofs.lemmas.Option.{get_or_from_slice_get}
 use Rattle.mb_keyed.proofs.NeedSteps.{are_needs}
-use Rattle.mb_keyed.specs.loops.Needs.{AreNeeds, AreSteps, IsStepOf, needs_from, needs_of}
+use Rattle.mb_keyed.specs.loops.Needs.{AreNeeds, AreSteps, IsStepOf, needs_between, needs_of}
 use Rattle.mb_keyed.specs.declared.needs.Need.{Need}
 use Rattle.mb_keyed.specs.declared.step_list.StepList.{StepList}
 use Rattle.mb_keyed.specs.declared.step_list.StepOf.{StepOf}
@@ -71,13 +71,13 @@ step-new digits cells move step first middle last e f at then end wide delta =
     ap (λ (list : List Need). length list) e ∙ length-append first plus in
     let n : length last ≡ length middle + length minus =
     ap (λ (list : List Need). length list) f ∙ length-append middle minus in
-    let one : needs_from last step.first step.middle ≡ plus =
+    let one : needs_between last step.first step.middle ≡ plus =
     ap (λ (list : List Need). take (step.middle - step.first) (drop step.first list)) f
     ∙ part-left step.first (step.middle - step.first) middle minus (omega arith)
     ∙ ap (λ (list : List Need). take (step.middle - step.first) (drop step.first list)) e
     ∙ ap (λ k. take (step.middle - step.first) (drop k (first ++ plus))) at
     ∙ part-behind (step.middle - step.first) first plus (omega arith) in
-    let two : needs_from last step.middle step.end ≡ minus =
+    let two : needs_between last step.middle step.end ≡ minus =
     ap (λ (list : List Need). take (step.end - step.middle) (drop step.middle list)) f
     ∙ ap (λ k. take (step.end - step.middle) (drop k (middle ++ minus))) then
     ∙ part-behind (step.end - step.middle) middle minus (omega arith) in

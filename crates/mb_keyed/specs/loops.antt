@@ -1,3 +1,4 @@
+pub mod Cached
 pub mod Graph
 pub mod Keyed
 pub mod Needs

@@ -1,10 +1,11 @@
 //! The cache of a worker: keys that it knows to be stored, each at a place of its own.
 //!
 //! It is direct-mapped: a key has one place, and the last key remembered there stays. The place is
-//! made of the rank of the key's table, since tables that follow one another in a ring have steps to
-//! tables whose ranks lie near each other. Words of 32 bits do where every key fits one: the cache
-//! then takes half the memory, and holds as many keys.
+//! made of the rank of the key's table, since tables that follow one another in a ring have steps
+//! to tables whose ranks lie near each other. Words of 32 bits do where every key fits one: the
+//! cache then takes half the memory, and holds as many keys.
 
+ghost use Rattle.std.specs.Bool.{OnTrue};
 ghost use Rattle.std.specs.Prelude.{◌≡◌, ◌⊎◌, length, ℕ};
 ghost use Rattle.mb_tables.specs.Lists.{In};
 
@@ -14,26 +15,30 @@ use std::marker::Model;
 /// The most words of all caches together.
 const MOST_CACHED: usize = 1 << 20;
 
-/// What the number of a rank's higher bits is multiplied by, an odd number near 2^32 over the golden
-/// ratio.
+/// What the number of a rank's higher bits is multiplied by, an odd number near 2^32 over the
+/// golden ratio.
 const SPREAD: u64 = 2_654_435_761;
 
-/// Keys that a worker knows to be stored. Either list is empty: the first holds keys of 32 bits, the
-/// second those of 64, and 0 stands where there is none.
-///
-/// It is seen as the words of both.
+/// The words of a cache, as wide as its keys; 0 stands where there is none.
+#[derive(Drop)]
+enum Words {
+    Narrow(Vec<u32>),
+    Wide(Vec<u64>),
+}
+
+/// Keys that a worker knows to be stored. It is seen as the list of its words.
 #[derive(Drop)]
 pub struct Cache {
-    narrow: Vec<u32>,
-    wide: Vec<u64>,
+    words: Words,
 }
 
 impl Model for Cache {
-    ghost use Rattle.std.specs.Prelude.{List, ℕ, ◌++◌};
+    ghost use Rattle.std.specs.Prelude.{List, ℕ};
+    ghost use Rattle.mb_keyed.specs.loops.Cached.{cached};
 
     ghost Value = { List ℕ };
 
-    ghost view = { λ c. c.narrow.items ++ c.wide.items };
+    ghost view = { λ c. cached c.words };
 }
 
 impl Cache {
@@ -46,16 +51,14 @@ impl Cache {
     pub fn new(alloc: Global, tables: usize, caches: usize, is_narrow: bool) -> Cache
         ensures { (key : ℕ) → In key result → key ≡ 0 }
     {
-        let words = cache_words(tables, caches);
+        let count = cache_words(tables, caches);
         if is_narrow {
             Cache {
-                narrow: narrow_words(alloc, words),
-                wide: Vec::new(alloc),
+                words: Words::Narrow(narrow_words(alloc, count)),
             }
         } else {
             Cache {
-                narrow: Vec::new(alloc),
-                wide: wide_words(alloc, words),
+                words: Words::Wide(wide_words(alloc, count)),
             }
         }
     }
@@ -65,26 +68,21 @@ impl Cache {
     pub fn has(&self, rank: u64, key: u64) -> bool
         ensures { OnTrue result (In key self.now) }
     {
-        let narrow = self.narrow.as_slice();
-        if narrow.is_empty() {
-            let wide = self.wide.as_slice();
-            let at = place_of(rank, wide.len());
-            return at < wide.len() && wide[at] == key;
+        match &self.words {
+            Words::Narrow(words) => has_narrow(words.as_slice(), rank, key),
+            Words::Wide(words) => has_wide(words.as_slice(), rank, key),
         }
-        let at = place_of(rank, narrow.len());
-        at < narrow.len() && u64::from(narrow[at]) == key
     }
 
-    /// Puts the key of a table of this rank at its place, if there is such a place and the key fits a
-    /// word.
+    /// Puts the key of a table of this rank at its place, if there is such a place and the key fits
+    /// a word.
     #[inline(always)]
     pub fn remember(&mut self, rank: u64, key: u64)
         ensures { (k : ℕ) → In k self.new → In k self.old ⊎ (k ≡ key) }
     {
-        if self.narrow.is_empty() {
-            put_wide(self.wide.as_mut_slice(), rank, key);
-        } else {
-            put_narrow(self.narrow.as_mut_slice(), rank, key);
+        match &mut self.words {
+            Words::Narrow(words) => put_narrow(words.as_mut_slice(), rank, key),
+            Words::Wide(words) => put_wide(words.as_mut_slice(), rank, key),
         }
     }
 }
@@ -117,15 +115,33 @@ fn wide_words(alloc: Global, words: usize) -> Vec<u64>
     }
 }
 
-/// The place of a table of this rank among so many words, a power of two. Where ranks are below their
-/// number, each has a place of its own. The higher bits move the places of a run of ranks as a whole:
-/// by the last bits alone, runs whose distance is close to a multiple of the number of words would lie
-/// on each other.
+/// The place of a table of this rank among so many words, a power of two. Where ranks are below
+/// their number, each has a place of its own. The higher bits move the places of a run of ranks as
+/// a whole: by the last bits alone, runs whose distance is close to a multiple of the number of
+/// words would lie on each other.
 #[inline(always)]
 fn place_of(rank: u64, words: usize) -> usize {
     let high = rank >> words.max(1).ilog2().min(63);
     let moved = rank.wrapping_add(high.wrapping_mul(SPREAD));
     moved as usize & words.wrapping_sub(1)
+}
+
+/// Whether the key of a table of this rank stands at its place among words of 32 bits.
+#[inline(always)]
+fn has_narrow(words: &[u32], rank: u64, key: u64) -> bool
+    ensures { OnTrue result (In key words.now) }
+{
+    let at = place_of(rank, words.len());
+    at < words.len() && u64::from(words[at]) == key
+}
+
+/// The same, of 64 bits.
+#[inline(always)]
+fn has_wide(words: &[u64], rank: u64, key: u64) -> bool
+    ensures { OnTrue result (In key words.now) }
+{
+    let at = place_of(rank, words.len());
+    at < words.len() && words[at] == key
 }
 
 /// Puts the key of a table of this rank at its place, if there is such a place and the key fits 32

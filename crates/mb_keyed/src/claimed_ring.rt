@@ -20,7 +20,7 @@ ghost use Rattle.std.specs.Prelude.{
   ℕ,
 };
 ghost use Rattle.mb_claims.specs.Claims.{IsRootOf};
-ghost use Rattle.mb_claims.specs.Lists.{AreDistinct};
+ghost use Rattle.mb_claims.specs.Lists.{AreDistinctKeys};
 ghost use Rattle.mb_claims.specs.Limits.{most_words};
 ghost use Rattle.mb_keyed.specs.loops.Graph.{AreKeyed, IsKeyNear};
 ghost use Rattle.mb_keyed.specs.loops.Keyed.{AreFound, IsKeyFault};
@@ -77,7 +77,7 @@ fn try_ring<R: Threads + Sync, G: Gate + Sync>(
         root.old.knows.gathered (keys_in found.old.items) →
         AreFound (IsKeyNear graph.now ring.now) known
         root.new.knows.gathered (keys_in found.new.items)) }
-    ensures once { OnOk result (AreDistinct root.new.knows.gathered) }
+    ensures once { OnOk result (AreDistinctKeys root.new.knows.gathered) }
     ensures told { IfOk result (λ again. IfNone again ((key : ℕ) →
         IsKeyNear graph.now ring.now key →
         In key root.new.knows.gathered)) }
@@ -144,11 +144,11 @@ fn fewest_words(shards: &Shards) -> u32 {
     fewest
 }
 
-/// How many words each shard is to have before a ring is expanded, where so many keys are stored; none
-/// where they are enough. There should be five for every four keys. All shards grow at once, since
-/// each time all keys are claimed anew, and the words take their memory three times while they are
-/// made, the most that a walk takes beside its tables. A walk of up to a million tables should need
-/// none but the first.
+/// How many words each shard is to have before a ring is expanded, where so many keys are stored;
+/// none where they are enough. There should be five for every four keys. All shards grow at once,
+/// since each time all keys are claimed anew, and the words take their memory three times while
+/// they are made, the most that a walk takes beside its tables. A walk of up to a million tables
+/// should need none but the first.
 fn wanted_words(shards: &Shards, stored: u64) -> Option<u32>
     ensures some { IfSome result (λ words. 1 ≤ words) }
     ensures most { IfSome result (λ words. words ≤ most_words) }
@@ -217,7 +217,7 @@ pub fn claim_ring<R: Threads + Sync, G: Gate + Sync>(
     ensures found { IfOk result.1 (λ found.
         AreFound (IsKeyNear graph.now ring.now)
         root.old.knows.gathered root.new.knows.gathered (keys_in found.items)) }
-    ensures once { OnOk result.1 (AreDistinct root.new.knows.gathered) }
+    ensures once { OnOk result.1 (AreDistinctKeys root.new.knows.gathered) }
     ensures told { OnOk result.1 ((key : ℕ) →
         IsKeyNear graph.now ring.now key →
         In key root.new.knows.gathered) }

@@ -66,12 +66,13 @@ pub fn gather_all(
     while let Some(worker) = workers.pop() {
         let Worker {
             pass,
-            cache: _,
+            cache,
             found: keys,
             is_left,
             is_short,
             full,
         } = worker;
+        drop(cache);
         shards.gather(root, pass);
         let is_lost = is_short_for(found, keys);
         left = Left {

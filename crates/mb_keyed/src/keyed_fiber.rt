@@ -17,9 +17,9 @@ pub struct KeyedFiber<'a> {
 }
 
 impl<'a> Model for KeyedFiber<'a> {
-    ghost use Rattle.mb_keyed.specs.loops.Keyed.{Fiber, IsKept};
+    ghost use Rattle.mb_keyed.specs.loops.Keyed.{FiberAt, IsKept};
 
-    ghost Value = { Fiber };
+    ghost Value = { FiberAt };
 
     ghost view = { λ f. record { matrix = f.matrix.now; margins = f.margins.items } };
 

@@ -16,7 +16,7 @@ ghost use Rattle.std.specs.Prelude.{
   ℕ,
 };
 ghost use Rattle.mb_claims.specs.Claims.{IsRootOf};
-ghost use Rattle.mb_claims.specs.Lists.{AreDistinct};
+ghost use Rattle.mb_claims.specs.Lists.{AreDistinctKeys};
 ghost use Rattle.mb_keyed.specs.loops.Graph.{AreKeyed, IsKeyNear};
 ghost use Rattle.mb_keyed.specs.loops.Keyed.{FindsKeyed, IsKeyFault, IsOfFiber, digits_in};
 ghost use Rattle.mb_keyed.specs.loops.Worked.{keys_in};
@@ -38,8 +38,8 @@ use mb_tables::{OutOfMemory, Table};
 use std::alloc::Global;
 use std::thread::Threads;
 
-/// The tables of a fiber with these keys, in ascending order, by so many workers, or fewer where there
-/// are few. They are read in the order of their ranks, so the sort finds them sorted.
+/// The tables of a fiber with these keys, in ascending order, by so many workers, or fewer where
+/// there are few. They are read in the order of their ranks, so the sort finds them sorted.
 fn ring_of_keys<R: Threads + Sync>(
     rt: &R,
     alloc: Global,
@@ -49,7 +49,7 @@ fn ring_of_keys<R: Threads + Sync>(
 ) -> Result<Vec<Table>, OutOfMemory>
     requires there { (key : ℕ) → In key (keys_in found.items) →
         IsKeyOf (digits_in fiber.now) (IsOfFiber fiber.now) key }
-    requires once { AreDistinct (keys_in found.items) }
+    requires once { AreDistinctKeys (keys_in found.items) }
     requires some { 1 ≤ workers }
     ensures keys { IfOk result (λ tables. (key : ℕ) →
         In key (keys_in found.items) ↔ IsKeyOf (digits_in fiber.now) (λ v. In v tables.items) key) }

@@ -1,8 +1,8 @@
 //! The walk by keys: workers claim the keys of tables among shared words.
 //!
-//! Before you change this: what a worker wins is known to be new only when its pass is gathered, and
-//! what it has seen, to be stored. So all passes of a round are gathered before its keys are read,
-//! and before any answer, also a refusal.
+//! Before you change this: what a worker wins is known to be new only when its pass is gathered,
+//! and what it has seen, to be stored. So all passes of a round are gathered before its keys are
+//! read, and before any answer, also a refusal.
 
 ghost use Rattle.std.specs.Bool.{OnTrue};
 ghost use Rattle.std.specs.Prelude.{
@@ -156,15 +156,15 @@ fn walk_rings<R: Threads + Sync, G: Gate + Sync>(
 /// The rings of a start by moves of a matrix, as `walk` gives them, by workers who claim the keys
 /// of tables among shared words.
 ///
-/// The keys are those of the matrix and the margins of the start. The root is that of the shards, no
-/// pass is open, and no key is stored. Each ring is cut into shares of neighbouring tables, one a
-/// worker: worker w of k has those from place `w * r / k` up to `(w + 1) * r / k`, of r. Before a
-/// worker expands a table it passes the gate, with its number and the number of tables that stand
-/// before this one in all rings.
+/// The keys are those of the matrix and the margins of the start. The root is that of the shards,
+/// no pass is open, and no key is stored. Each ring is cut into shares of neighbouring tables, one
+/// a worker: worker w of k has those from place `w * r / k` up to `(w + 1) * r / k`, of r. Before a
+/// table is expanded the gate is passed, with the number of its share, from 0, and the number of
+/// tables that stand before this one in all rings.
 ///
 /// At the end no pass is open, and the root belongs to the shards that come back. The gathered keys
-/// are those of the tables of the rings, each once; the rings have no claims of their own, since the
-/// caller has the root. After a refusal each gathered key is that of a reached table.
+/// are those of the tables of the rings, each once; the rings have no claims of their own, since
+/// the caller has the root. After a refusal each gathered key is that of a reached table.
 pub fn walk_on<R: Threads + Sync, G: Gate + Sync>(
     rt: &R,
     alloc: Global,

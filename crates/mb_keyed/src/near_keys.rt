@@ -1,7 +1,7 @@
 //! The keys of the tables one step from a table.
 //!
-//! They are listed before any of them is claimed. A step looks at the counts and at nothing else, so
-//! none has to wait for a word that is far from the processor.
+//! They are listed before any of them is claimed. A step looks at the counts and at nothing else,
+//! so none has to wait for a word that is far from the processor.
 
 ghost use Rattle.std.specs.Prelude.{◌≡◌, ◌↔◌, ◌⊎◌, List, OnOk, length, ℕ};
 ghost use Rattle.mb_keyed.specs.loops.Graph.{IsKeyIn};
@@ -96,8 +96,8 @@ fn push_both(
     )
 }
 
-/// Lists the keys of the tables one step from a table, which has this key and this rank, in place of
-/// what the list had. Where memory is wanting, the list has some of them.
+/// Lists the keys of the tables one step from a table, which has this key and this rank, in place
+/// of what the list had. Where memory is wanting, the list has some of them.
 pub fn list_near(
     graph: &KeyedGraph<'_>,
     counts: &[u32],

@@ -2,7 +2,7 @@
 
 ghost use Rattle.std.specs.Bool.{OnFalse, OnTrue};
 ghost use Rattle.std.specs.Prelude.{◌++◌, ◌<◌, ◌≡◌, ◌≤◌, All, OnOk, length};
-ghost use Rattle.mb_keyed.specs.loops.Needs.{Has, needs_from, needs_of, takes};
+ghost use Rattle.mb_keyed.specs.loops.Needs.{Has, needs_between, needs_of, takes};
 
 use mb_tables::{Move, OutOfMemory, Sign};
 
@@ -46,7 +46,7 @@ pub fn push_needs(needs: &mut Vec<Need>, z: &Move, sign: Sign) -> Result<(), Out
 pub fn needs_between(needs: &[Need], from: usize, to: usize) -> &[Need]
     requires order { from ≤ to }
     requires room { to ≤ length needs.now }
-    ensures { result.now ≡ needs_from needs.now from to }
+    ensures { result.now ≡ needs_between needs.now from to }
 {
     &needs[from..to]
 }

@@ -90,8 +90,8 @@ fn is_any_blank(tables: &[Table]) -> bool
     false
 }
 
-/// The tables of the fiber with these keys, in the order of the keys, by so many workers. Each is read
-/// at its place, so nothing is moved.
+/// The tables of the fiber with these keys, in the order of the keys, by so many workers. Each is
+/// read at its place, so nothing is moved.
 pub fn read_tables<R: Threads + Sync>(
     rt: &R,
     alloc: Global,

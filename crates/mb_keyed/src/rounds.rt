@@ -23,7 +23,14 @@ ghost use Rattle.std.specs.Prelude.{
 ghost use Rattle.mb_claims.specs.Claims.{IsRootOf};
 ghost use Rattle.mb_claims.specs.Closed.{IsClosed};
 ghost use Rattle.mb_keyed.specs.loops.Graph.{AreKeyed, IsKeyIn, IsKeyNear};
-ghost use Rattle.mb_keyed.specs.loops.Rounds.{AreWorked, FallsTo, IsListed, IsNearBefore, IsNearShare, IsRound};
+ghost use Rattle.mb_keyed.specs.loops.Rounds.{
+  AreWorked,
+  FallsTo,
+  IsListed,
+  IsNearBefore,
+  IsNearShare,
+  IsRound,
+};
 ghost use Rattle.mb_keyed.specs.loops.Worked.{
   Claims,
   IsIdle,
@@ -52,8 +59,8 @@ use std::alloc::Global;
 use std::thread;
 use std::thread::Threads;
 
-/// Whether a share falls to a pass, of so many: to the pass of its number, and to pass 0 where there
-/// is none.
+/// Whether a share falls to a pass, of so many: to the pass of its number, and to pass 0 where
+/// there is none.
 fn falls_to(passes: usize, number: usize, share: usize) -> bool
     ensures is { OnTrue result (FallsTo passes number share) }
     ensures not { OnFalse result (FallsTo passes number share → ⊥) }
@@ -89,8 +96,8 @@ fn try_share<G: Gate>(
     if falls_to(passes, number, share) {
         let (from, tables) = share_of(ring, share, count);
         let first = earlier + from as u64;
-        let number = share as u32;
-        expand_share(shards, graph, tables, number, first, room, gate, worker);
+        let share = share as u32;
+        expand_share(shards, graph, tables, share, first, room, gate, worker);
     }
 }
 

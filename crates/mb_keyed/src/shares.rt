@@ -52,8 +52,8 @@ fn expand_table<G: Gate>(
     claim_keys(shards, near.as_slice(), unknown, worker);
 }
 
-/// Expands the tables of a share: the worker passes the gate before each, and claims the keys of
-/// the tables one step from it.
+/// Expands the tables of the share with this number: the worker passes the gate with it before
+/// each, and claims the keys of the tables one step from it.
 pub fn expand_share<G: Gate>(
     shards: &Shards,
     graph: &KeyedGraph<'_>,

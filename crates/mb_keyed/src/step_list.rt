@@ -1,8 +1,8 @@
 //! The steps of some moves, as a walk by keys tries them.
 //!
-//! Only whether a step leads to a table is asked: the table has what the step needs. Then the key of
-//! what it makes is the key before and what the move adds to it, so that no table is moved. Ranks go
-//! the same way; they decide only where a key is cached.
+//! Only whether a step leads to a table is asked: the table has what the step needs. Then the key
+//! of what it makes is the key before and what the move adds to it, so that no table is moved.
+//! Ranks go the same way; they decide only where a key is cached.
 
 ghost use Rattle.std.specs.Prelude.{◌<◌, ◌≡◌, All, IfOk};
 ghost use Rattle.mb_keyed.specs.loops.Needs.{AreSteps};

@@ -48,8 +48,8 @@ fn keep(worker: &mut Worker, key: u64, rank: u64)
     }
 }
 
-/// Claims the key of a table of this rank among the shared words, and tells whether the worker knows
-/// it to be stored then.
+/// Claims the key of a table of this rank among the shared words, and tells whether the worker
+/// knows it to be stored then.
 #[inline(never)]
 fn claim_shared(shards: &Shards, worker: &mut Worker, key: u64, rank: u64) -> bool
     requires ours { IsPassOf shards.now worker.old.pass }
@@ -122,9 +122,9 @@ fn prefetch_all(shards: &Shards, keys: &[Ranked]) {
     }
 }
 
-/// Claims some keys. Most are met many times: one that stands in the worker's cache needs no look at
-/// the shared words. The others are listed, so that the waits for their words overlap; where memory is
-/// wanting for that, all are left.
+/// Claims some keys. Most are met many times: one that stands in the worker's cache needs no look
+/// at the shared words. The others are listed, so that the waits for their words overlap; where
+/// memory is wanting for that, all are left.
 pub fn claim_keys(shards: &Shards, near: &[Ranked], unknown: &mut Vec<Ranked>, worker: &mut Worker)
     requires ours { IsWorkerOf shards.now worker.old }
     requires some { (key : ℕ) → In key (keys_in near.now) → key ≢ 0 }

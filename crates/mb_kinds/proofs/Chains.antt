@@ -37,13 +37,15 @@ goes_on first x next e = ap (λ r. r >>= next) e
 refused_matrix : (array : Rows) (scale : Scheme) (base : List ℕ) (fault : MatrixFault)
     → matrix_of array ≡ Err fault → model_on array scale base ≡ Err (Matrix fault)
 refused_matrix array scale base fault e =
-    let next : Design → Result ModelValue KindFault = λ matrix. of_measure (measure_of matrix scale base)
+    let next : Design → Result ModelValue KindFault =
+    λ matrix. of_measure (measure_of matrix scale base)
     >>= (λ measure. Ok (record { matrix = matrix; measure = measure })) in
     ap (λ r. of_matrix r >>= next) e
 
 -- as many cells as counts, among the first entries
 cells_before : (entries : List Entry) (n : ℕ) → n ≤ length entries
-    → length (filter (λ k. is_some (count_in (slice_index_or entries k StructuralZero))) (range_with_len 0 n))
+    → length (filter (λ k. is_some (count_in (slice_index_or entries k StructuralZero)))
+    (range_with_len 0 n))
     ≡ length (counts (take n entries))
 cells_before entries zero within = refl
 cells_before entries (suc n) within =
@@ -62,17 +64,20 @@ cells_before entries (suc n) within =
         → (entry : Entry) → entry ≡ get_or entries n (Count 0)
         → length (filter test (range_with_len 0 (suc n))) ≡ length (counts (take (suc n) entries))
     by ih (Count c) e =
-        let passes : test n ≡ true = ap (λ (x : Entry). is_some (count_in x)) (entry_there entries n (Count c) inside (sym e)) in
+        let passes : test n ≡ true = ap (λ (x : Entry). is_some (count_in x))
+        (entry_there entries n (Count c) inside (sym e)) in
         let left = ap (λ m. length (filter test (range_with_len 0 m))) on
         ∙ ap length (numbers_more test n)
         ∙ length-append (filter test (range_with_len 0 n)) _
-        ∙ ap (λ b. length (filter test (range_with_len 0 n)) + length (cond b (n ∷ []) [])) passes in
+        ∙ ap (λ b. length (filter test (range_with_len 0 n))
+        + length (cond b (n ∷ []) [])) passes in
         let right = ap (λ m. length (counts (take m entries))) on
         ∙ ap length (counts_more entries n c inside (sym e))
         ∙ length-append (counts (take n entries)) (c ∷ []) in
         omega (arith, left, right, ih)
     by ih StructuralZero e =
-        let fails : test n ≡ false = ap (λ (x : Entry). is_some (count_in x)) (entry_there entries n StructuralZero inside (sym e)) in
+        let fails : test n ≡ false = ap (λ (x : Entry). is_some (count_in x))
+        (entry_there entries n StructuralZero inside (sym e)) in
         let left = ap (λ m. length (filter test (range_with_len 0 m))) on
         ∙ ap length (numbers_more test n)
         ∙ length-append (filter test (range_with_len 0 n)) _
@@ -88,10 +93,12 @@ cells_counted entries =
     ∙ ap (λ list. length (counts list)) (take_all (length entries) entries (omega arith))
 
 -- a property of each value of a map
-pub each_map : {X Y : Type 0} (P : Y → Type 0) (f : X → Y) (xs : List X) (x : X) → ((x : X) → P (f x))
+pub each_map : {X Y : Type 0} (P : Y → Type 0) (f : X → Y) (xs : List X) (x : X)
+    → ((x : X) → P (f x))
     → All P (map f xs)
 each_map P f xs x h k d within =
-    subst P (sym (get_or-map f xs k x d (let e = length-map xs f in omega (arith, e, within)))) (h (get_or xs k x))
+    subst P (sym (get_or-map f xs k x d (let e = length-map xs f in omega (arith, e, within))))
+    (h (get_or xs k x))
 
 -- each row of a generator is as wide as there are cells
 row_wide : (table : CrossTable) (generator places : List ℕ)
@@ -104,7 +111,8 @@ pub rows_wide : (table : CrossTable) (generators : List (List ℕ))
     → All (λ row. length row ≡ cell_count table) (flat_map (margin_rows table) generators)
 rows_wide table [] = All-nil (λ (row : List ℤ). length row ≡ cell_count table)
 rows_wide table (generator ∷ generators) =
-    All-append (λ (row : List ℤ). length row ≡ cell_count table) (margin_rows table generator) (flat_map (margin_rows table) generators)
+    All-append (λ (row : List ℤ). length row ≡ cell_count table) (margin_rows table generator)
+    (flat_map (margin_rows table) generators)
     (each_map (λ (row : List ℤ). length row ≡ cell_count table)
     (λ k. level_row table generator (combination (sizes_of table.levels generator) k))
     (range_with_len 0 (margin_size table generator)) 0
@@ -112,7 +120,8 @@ rows_wide table (generator ∷ generators) =
     (rows_wide table generators)
 
 -- base numbers are one a cell
-pub base_length : (cells : ℕ) (given : Option (List ℕ)) (base : List ℕ) → base_for cells given ≡ Ok base
+pub base_length : (cells : ℕ) (given : Option (List ℕ)) (base : List ℕ)
+    → base_for cells given ≡ Ok base
     → length base ≡ cells
 base_length cells None base e =
     let same : base ≡ map (λ k. 1) (range_with_len 0 cells) = cc in
@@ -126,33 +135,40 @@ base_length cells (Some list) base e = by (length list == cells) refl e
         ap length (sym same) ∙ eqb-true (length list) cells (sym is)
     by false is e = cc
 
-module _ (table : CrossTable) (is : IsCrossTable table) (generators : List (List ℕ)) (given : Option (List ℕ)) where
+module _ (table : CrossTable) (is : IsCrossTable table) (generators : List (List ℕ))
+    (given : Option (List ℕ)) where
   -- the rows
   abbrev pub rows : List (List ℤ)
   rows = flat_map (margin_rows table) generators
 
   module _ (base : List ℕ) (has : base_for (cell_count table) given ≡ Ok base) where
     -- too many rows
-    pub too_many : 64 < length rows → margins_model table generators given ≡ Err (Matrix TooManyMargins)
+    pub too_many : 64 < length rows → margins_model table generators given
+        ≡ Err (Matrix TooManyMargins)
     too_many many =
         let wide = is_size-true (cell_count table) is.some_cells is.few_cells in
-        let wrong = wrong_rows (margin_array table generators) wide (is_size-false (length rows) (inr many)) in
+        let wrong = wrong_rows (margin_array table generators) wide
+        (is_size-false (length rows) (inr many)) in
         goes_on (base_for (cell_count table) given) base
         (λ b. model_on (margin_array table generators) (first_margin table generators) b) has
-        ∙ refused_matrix (margin_array table generators) (first_margin table generators) base TooManyMargins wrong
+        ∙ refused_matrix (margin_array table generators) (first_margin table generators) base
+        TooManyMargins wrong
 
     -- so where the first generator has too many
     pub too_many_first : 1 ≤ length generators → 64 < margin_size table (get_or generators 0 [])
         → margins_model table generators given ≡ Err (Matrix TooManyMargins)
     too_many_first some many =
         let g = get_or generators 0 [] in
-        too_many (let left = first generators some in let e = length-margin_rows table g in omega (arith, left, e, many))
+        too_many (let left = first generators some in let e = length-margin_rows table g in
+        omega (arith, left, e, many))
       where
         first : (list : List (List ℕ)) → 1 ≤ length list
-            → length (margin_rows table (get_or list 0 [])) ≤ length (flat_map (margin_rows table) list)
+            → length (margin_rows table (get_or list 0 []))
+            ≤ length (flat_map (margin_rows table) list)
         first [] some = absurd (omega (arith, some))
         first (g ∷ list) some =
-            let e = length-append (margin_rows table g) (flat_map (margin_rows table) list) in omega (arith, e)
+            let e = length-append (margin_rows table g)
+            (flat_map (margin_rows table) list) in omega (arith, e)
 
     -- the rows end to end
     pub made : (count cells : ℕ) (entries : List ℤ) (scale : Scheme) → cells ≡ cell_count table
@@ -162,7 +178,8 @@ module _ (table : CrossTable) (is : IsCrossTable table) (generators : List (List
         let array = ap (λ n. array_of n count entries) e
         ∙ ap (λ n. array_of (cell_count table) n entries) f
         ∙ ap (array_of (cell_count table) (length rows)) g
-        ∙ array_of-end_to_end (margin_array table generators) (length rows) (cell_count table) refl refl
+        ∙ array_of-end_to_end (margin_array table generators) (length rows)
+        (cell_count table) refl refl
         (rows_wide table generators) in
         ap (λ a. model_on a scale base) array
         ∙ ap (λ s. model_on (margin_array table generators) s base) h

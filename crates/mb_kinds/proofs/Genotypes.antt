@@ -18,7 +18,8 @@ use Rattle.toml.specs.Data.{Members}
 
 -- each row is as wide as there are genotypes
 classes_wide : (classes : ℕ)
-    → All (λ row. length row ≡ length (genotypes classes)) (map (class_row classes) (range_with_len 0 classes))
+    → All (λ row. length row ≡ length (genotypes classes))
+    (map (class_row classes) (range_with_len 0 classes))
 classes_wide classes =
     each_map (λ (row : List ℤ). length row ≡ length (genotypes classes)) (class_row classes)
     (range_with_len 0 classes) 0 (λ i. length-map (genotypes classes) _)
@@ -29,14 +30,16 @@ pub classes_full : (classes cells : ℕ) (entries : List ℤ) → length (genoty
     → length entries ≡ classes * cells
 classes_full classes cells entries same is =
     ap length is
-    ∙ all_rows classes (length (genotypes classes)) (map (class_row classes) (range_with_len 0 classes))
+    ∙ all_rows classes (length (genotypes classes))
+    (map (class_row classes) (range_with_len 0 classes))
     (length-map-range_with_len (class_row classes) 0 classes) (classes_wide classes)
     ∙ ap (λ n. classes * n) same
 
 -- and they are those of the model
 pub classes_made : (table : CrossTable) (members : Members) (classes cells : ℕ) (entries : List ℤ)
     (base : List ℕ) → classes_at members ≡ Ok classes → length (genotypes classes) ≡ cells
-    → cells ≡ cell_count table → entries ≡ end_to_end (map (class_row classes) (range_with_len 0 classes))
+    → cells ≡ cell_count table → entries ≡ end_to_end
+    (map (class_row classes) (range_with_len 0 classes))
     → base ≡ map orders (genotypes classes)
     → model_on (array_of cells classes entries) Total base ≡ hardy_weinberg table members
 classes_made table members classes cells entries base has same count is bases =
@@ -46,7 +49,8 @@ classes_made table members classes cells entries base has same count is bases =
     (length-map-range_with_len (class_row classes) 0 classes) (classes_wide classes) in
     ap (λ a. model_on a Total base) array
     ∙ ap (model_on (class_array classes) Total) bases
-    ∙ sym (goes_on (classes_at members) classes (λ k. so_or (length (genotypes k) == cell_count table)
+    ∙ sym (goes_on (classes_at members) classes
+    (λ k. so_or (length (genotypes k) == cell_count table)
     (CellCount (length (genotypes k)) (cell_count table))
     (model_on (class_array k) Total (map orders (genotypes k)))) has
     ∙ ap (λ b. so_or b (CellCount (length (genotypes classes)) (cell_count table))

@@ -7,9 +7,9 @@ use Rattle.std.proofs.lemmas.Option.{get_or_from_slice_get}
 use Rattle.std.specs.Cmp.Lexicographic.{pointwise}
 use Rattle.std.specs.List.{slice_get}
 use Rattle.mb_data.proofs.LevelDigits.{size_there}
-use Rattle.mb_data.specs.CrossTable.{CrossTable, combination, combinations, counts, sizes}
+use Rattle.mb_data.proofs.WrittenRead.{some_entries}
+use Rattle.mb_data.specs.CrossTable.{CrossTable, combination, combinations, sizes}
 use Rattle.mb_data.specs.Dataset.{IsCrossTable}
-use Rattle.mb_data.specs.declared.entry.Entry.{Entry}
 use Rattle.mb_kinds.specs.Generators.{levels_of, sizes_of}
 use Rattle.mb_kinds.specs.loops.Placed.{IsPlaced}
 
@@ -29,20 +29,17 @@ pub combinations-nil : combinations [] ≡ 1
 unfolding combinations
 combinations-nil = refl
 
--- counts are those of entries
-some_entries : (entries : List Entry) → 1 ≤ length (counts entries) → 1 ≤ length entries
-some_entries [] some = absurd (omega (arith, some))
-some_entries (entry ∷ entries) some = omega arith
-
 -- a table has a combination
-pub some_combination : (table : CrossTable) → IsCrossTable table → 0 < combinations (sizes table.levels)
+pub some_combination : (table : CrossTable) → IsCrossTable table
+    → 0 < combinations (sizes table.levels)
 some_combination table is =
     let some = some_entries table.entries is.some_cells in
     let full = is.full in
     omega (arith, some, full)
 
 -- so each of its factors has a level
-pub some_level : (table : CrossTable) → IsCrossTable table → (factor : ℕ) → factor < length table.factors
+pub some_level : (table : CrossTable) → IsCrossTable table → (factor : ℕ)
+    → factor < length table.factors
     → 1 ≤ get_or (sizes table.levels) factor 0
 some_level table is factor within =
     size_there (sizes table.levels) 0 factor (some_combination table is)
@@ -65,7 +62,8 @@ some_margin table is [] placed = let e = combinations-nil in omega (arith, e)
 some_margin table is (factor ∷ generator) placed =
     let within = All-head (λ k. k < length table.factors) factor generator placed in
     let others = All-tail (λ k. k < length table.factors) factor generator placed in
-    let e = combinations-cons (get_or (sizes table.levels) factor 0) (sizes_of table.levels generator) in
+    let e = combinations-cons (get_or (sizes table.levels) factor 0)
+    (sizes_of table.levels generator) in
     let some = some_product (get_or (sizes table.levels) factor 0)
     (combinations (sizes_of table.levels generator)) (some_level table is factor within)
     (some_margin table is generator others) in
@@ -82,14 +80,16 @@ left_margin levels generator i factor within is =
     ∙ combinations-cons (get_or (sizes levels) factor 0) (sizes_of levels (drop (i + 1) generator))
 
 -- how many combinations were counted, with one factor more
-pub counted_more : (levels : List (List (List ℕ))) (generator : List ℕ) (i factor count next total : ℕ)
+pub counted_more : (levels : List (List (List ℕ))) (generator : List ℕ)
+    (i factor count next total : ℕ)
     → i < length generator → get_or generator i 0 ≡ factor
     → count * combinations (sizes_of levels (drop i generator)) ≡ total
     → next ≡ count * get_or (sizes levels) factor 0
     → next * combinations (sizes_of levels (drop (i + 1) generator)) ≡ total
 counted_more levels generator i factor count next total within is before e =
     ap (λ n. n * combinations (sizes_of levels (drop (i + 1) generator))) e
-    ∙ mul_assoc count (get_or (sizes levels) factor 0) (combinations (sizes_of levels (drop (i + 1) generator)))
+    ∙ mul_assoc count (get_or (sizes levels) factor 0)
+    (combinations (sizes_of levels (drop (i + 1) generator)))
     ∙ ap (λ n. count * n) (sym (left_margin levels generator i factor within is))
     ∙ before
 
@@ -106,17 +106,20 @@ right_grows (suc a) b q = omega arith
 -- whether these levels are those of a combination of the table
 abbrev pub same : List (List (List ℕ)) → List ℕ → ℕ → ℕ → Bool
 same levels generator number cell =
-    pointwise nat_eq (combination (sizes_of levels generator) number) (levels_of levels generator cell)
+    pointwise nat_eq (combination (sizes_of levels generator) number)
+    (levels_of levels generator cell)
 
 same-cons : (levels : List (List (List ℕ))) (factor : ℕ) (generator : List ℕ) (number cell : ℕ)
     → same levels (factor ∷ generator) number cell
-    ≡ (nat_eq (number / combinations (sizes_of levels generator)) (get_or (combination (sizes levels) cell) factor 0)
+    ≡ (nat_eq (number / combinations (sizes_of levels generator))
+    (get_or (combination (sizes levels) cell) factor 0)
     && same levels generator (number % combinations (sizes_of levels generator)) cell)
 unfolding combination
 same-cons levels factor generator number cell = refl
 
 -- from a place on, the level of its factor comes first
-pub same_left : (levels : List (List (List ℕ))) (generator : List ℕ) (i factor number cell level rest : ℕ)
+pub same_left : (levels : List (List (List ℕ))) (generator : List ℕ)
+    (i factor number cell level rest : ℕ)
     → i < length generator → get_or generator i 0 ≡ factor
     → slice_get (combination (sizes levels) cell) factor ≡ Some level
     → rest ≡ combinations (sizes_of levels (drop (i + 1) generator))
@@ -137,10 +140,13 @@ pub size_left : (levels : List (List (List ℕ))) (generator : List ℕ) (i fact
     → i < length generator → get_or generator i 0 ≡ factor
     → size ≡ combinations (sizes_of levels (drop i generator))
     → 1 ≤ get_or (sizes levels) factor 0
-    → size / get_or (sizes levels) factor 0 ≡ combinations (sizes_of levels (drop (i + 1) generator))
+    → size / get_or (sizes levels) factor 0 ≡ combinations
+    (sizes_of levels (drop (i + 1) generator))
 size_left levels generator i factor size within is e some =
-    ap (λ n. n / get_or (sizes levels) factor 0) (e ∙ left_margin levels generator i factor within is)
-    ∙ mul-div_cancel_left (combinations (sizes_of levels (drop (i + 1) generator))) (omega (arith, some))
+    ap (λ n. n / get_or (sizes levels) factor 0)
+    (e ∙ left_margin levels generator i factor within is)
+    ∙ mul-div_cancel_left (combinations (sizes_of levels (drop (i + 1) generator)))
+    (omega (arith, some))
 
 -- no factor is left
 pub same_nil : (levels : List (List (List ℕ))) (number cell : ℕ) → same levels [] number cell ≡ true
@@ -195,14 +201,16 @@ module _ (table : CrossTable) (is : IsCrossTable table) (generator : List ℕ)
       → count * combinations (sizes_of table.levels (drop i generator)) ≡ total
       → count * n * combinations (sizes_of table.levels (drop (i + 1) generator)) ≡ total
   count_more count total e =
-      counted_more table.levels generator i (get_or generator i 0) count (count * n) total within refl e
+      counted_more table.levels generator i (get_or generator i 0) count
+      (count * n) total within refl e
       (ap (λ m. count * m) is_size)
 
   pub many_counted : (count total : ℕ) → 64 < count * n
       → count * combinations (sizes_of table.levels (drop i generator)) ≡ total → 64 < total
   many_counted count total many e =
       let m = count_more count total e in
-      let l = left_grows (count * n) (combinations (sizes_of table.levels (drop (i + 1) generator))) others in
+      let l = left_grows (count * n)
+      (combinations (sizes_of table.levels (drop (i + 1) generator))) others in
       omega (arith, m, l, many)
 
 -- all factors are counted
@@ -210,6 +218,7 @@ pub all_counted : (levels : List (List (List ℕ))) (generator : List ℕ) (i co
     → length generator ≤ i → count * combinations (sizes_of levels (drop i generator)) ≡ total
     → count ≡ total
 all_counted levels generator i count total past e =
-    let one = ap (λ g. combinations (sizes_of levels g)) (drop_all i generator past) ∙ combinations-nil in
+    let one = ap (λ g. combinations (sizes_of levels g)) (drop_all i generator past)
+    ∙ combinations-nil in
     let same = ap (λ n. count * n) one in
     omega (arith, same, e)

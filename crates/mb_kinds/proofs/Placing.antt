@@ -9,7 +9,8 @@ use Rattle.mb_kinds.specs.loops.Placed.{ArePlaced, IsPlaced}
 use Rattle.mb_tables.proofs.ListLaws.{In-filter_only, place-in, range-only}
 
 -- the factors of one generator
-pub is_placed : (table : CrossTable) (names : List (List ℕ)) → IsPlaced table (factors_named table.factors names)
+pub is_placed : (table : CrossTable) (names : List (List ℕ))
+    → IsPlaced table (factors_named table.factors names)
 is_placed table names k d within =
     let list = factors_named table.factors names in
     let there = place-in list k (get_or list k d) (slice_get-get_or list k d within) in
@@ -23,5 +24,6 @@ pub all_placed : (table : CrossTable) (generators : List (List (List ℕ)))
     → ArePlaced table (map (factors_named table.factors) generators)
 all_placed table [] = All-nil (IsPlaced table)
 all_placed table (names ∷ generators) =
-    All-cons (IsPlaced table) (factors_named table.factors names) (map (factors_named table.factors) generators)
+    All-cons (IsPlaced table) (factors_named table.factors names)
+    (map (factors_named table.factors) generators)
     (is_placed table names) (all_placed table generators)

@@ -2,25 +2,18 @@
 use Rattle.std.proofs.Common.{Bool, List, [], ap, append-nil, arith, cond, false, map, sym, true, ℕ, ◌+◌, ◌-◌, ◌≤◌, ◌++◌, ◌∙◌, ◌∷◌, ◌≡◌}
 use Rattle.std.proofs.lemmas.List.{append_assoc}
 use Rattle.std.proofs.lemmas.List.Concat.{flat_map-append}
-use Rattle.std.proofs.lemmas.List.Elements.{filter-append}
 use Rattle.std.proofs.lemmas.List.FromFn.{map-range_with_len_more}
 use Rattle.std.specs.List.{filter, flat_map, range_with_len}
+use Rattle.mb_data.proofs.CellLists.{numbers_more}
 
 -- one number more
 pub range_more : (a n j : ℕ) → a + n ≡ j → range_with_len a (n + 1) ≡ range_with_len a n ++ j ∷ []
-range_more a n j e = ap (range_with_len a) (let on : n + 1 ≡ ℕ.suc n = omega arith in on) ∙ last a n j e
+range_more a n j e = ap (range_with_len a) (let on : n + 1 ≡ ℕ.suc n = omega arith in
+    on) ∙ last a n j e
   where
     last : (a n j : ℕ) → a + n ≡ j → range_with_len a (ℕ.suc n) ≡ range_with_len a n ++ j ∷ []
     last a ℕ.zero j e = let same : a ≡ j = omega (arith, e) in ap (λ k. k ∷ []) same
     last a (ℕ.suc n) j e = ap (λ l. a ∷ l) (last (a + 1) n j (omega (arith, e)))
-
--- one number more that passes a test or not
-filter_more : (test : ℕ → Bool) (k : ℕ)
-    → filter test (range_with_len 0 (k + 1))
-    ≡ filter test (range_with_len 0 k) ++ cond (test k) (k ∷ []) []
-filter_more test k =
-    ap (filter test) (range_more 0 k k (omega arith))
-    ∙ filter-append test (range_with_len 0 k) (k ∷ [])
 
 -- one that passes
 pub filter_passes : (test : ℕ → Bool) (k : ℕ) (list : List ℕ)
@@ -28,7 +21,7 @@ pub filter_passes : (test : ℕ → Bool) (k : ℕ) (list : List ℕ)
     → list ++ k ∷ [] ≡ filter test (range_with_len 0 (k + 1))
 filter_passes test k list before passes =
     ap (λ l. l ++ k ∷ []) before
-    ∙ sym (filter_more test k
+    ∙ sym (numbers_more test k
     ∙ ap (λ (b : Bool). filter test (range_with_len 0 k) ++ cond b (k ∷ []) []) passes)
 
 -- one that fails
@@ -37,7 +30,7 @@ pub filter_fails : (test : ℕ → Bool) (k : ℕ) (list : List ℕ)
     → list ≡ filter test (range_with_len 0 (k + 1))
 filter_fails test k list before fails =
     before
-    ∙ sym (filter_more test k
+    ∙ sym (numbers_more test k
     ∙ ap (λ (b : Bool). filter test (range_with_len 0 k) ++ cond b (k ∷ []) []) fails
     ∙ append-nil (filter test (range_with_len 0 k)))
 

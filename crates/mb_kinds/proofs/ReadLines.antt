@@ -1,17 +1,16 @@
 -- Lines of a record that were read are what is written of what they say.
-use Rattle.std.proofs.Common.{All, Bool, List, None, Ok, Option, Some, [], ap, codes, cond, false, length, map, refl, subst, sym, true, ℕ, ℤ, ◌&&◌, ◌++◌, ◌<◌, ◌==◌, ◌^◌, ◌∙◌, ◌∷◌, ◌≡◌}
+use Rattle.std.proofs.Common.{All, Bool, List, None, Option, Some, [], ap, codes, cond, false, length, map, refl, subst, sym, true, ℕ, ℤ, ◌&&◌, ◌<◌, ◌==◌, ◌^◌, ◌∙◌, ◌∷◌, ◌≡◌}
 use Rattle.std.proofs.lemmas.Bool.{eqb-true}
-use Rattle.std.proofs.lemmas.List.Elements.{All-from_recursion}
 use Rattle.std.proofs.lemmas.Slice.Eq.{bytes_eq-Decides}
 use Rattle.std.specs.Fmt.{decimal, signed_decimal}
-use Rattle.std.specs.List.{join_with_byte, list_all}
+use Rattle.std.specs.List.{list_all}
 use Rattle.std.specs.Option.{is_none, option_and_then, option_map}
 use Rattle.std.specs.Str.{bytes_eq}
 use Rattle.mb_kinds.proofs.NumberItems.{entries_read}
 use Rattle.mb_kinds.specs.Record.{base_items, scale_items}
-use Rattle.mb_kinds.specs.RecordText.{as_many, base_in, dataset_in, fixed_by, is_design_entry, row_in, scale_in, scheme_in, sizes_in, two_sizes, whole_row}
+use Rattle.mb_kinds.specs.RecordText.{as_many, base_in, dataset_in, fixed_by, row_in, scale_in, scheme_in, sizes_in, two_sizes, whole_row}
 use Rattle.mb_matrix.specs.Faults.{is_size}
-use Rattle.mb_matrix.specs.Matrix.{Design}
+use Rattle.mb_matrix.specs.Matrix.{Design, is_design_entry}
 use Rattle.mb_matrix.specs.Measure.{RowMargins, Scheme, Total, scale_fault}
 use Rattle.mb_text.proofs.ItemBytes.{items_again}
 use Rattle.mb_text.proofs.LineReaders.{after_read, and_then_read, name_reads, numbers_after_read}

@@ -20,7 +20,8 @@ use Rattle.mb_matrix.proofs.NoFault.{accepted, no_fault}
 use Rattle.mb_matrix.proofs.RowsAndColumns.{length-columns}
 use Rattle.mb_matrix.specs.Faults as matrices
 use Rattle.mb_matrix.specs.Matrix.{Design, IsDesign}
-use Rattle.mb_matrix.specs.Measure.{IsMeasureOf, Scheme, Total, Weighting, groups_of, measure_fault, measure_of, unless_fault}
+use Rattle.mb_matrix.specs.Measure.{IsMeasureOf, Scheme, Total, Weighting, groups_of, measure_fault, measure_of}
+use Rattle.mb_matrix.specs.Faults.{unless_fault}
 use Rattle.mb_matrix.specs.declared.fault.MatrixFault.{MatrixFault}
 use Rattle.mb_matrix.specs.declared.measure_fault.MeasureFault.{MeasureFault}
 use Rattle.mb_moves.proofs.AcceptedTexts.{array_taken}
@@ -131,7 +132,10 @@ array_models array scale base wide long fits =
         (measure_ok (measure_of matrix scale base) measure made) in
         let same : own ≡ model = cc in
         let fact : IsModelOver array.width own = record {
-          sound = record { design = subst IsDesign (sym taken.1) known.design; weighted = weighed.0 };
+          sound = record {
+            design = subst IsDesign (sym taken.1) known.design;
+            weighted = weighed.0;
+          };
           fits = subst Fit (sym weighed.1) fits;
           many = many;
         } in

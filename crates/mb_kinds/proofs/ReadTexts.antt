@@ -1,32 +1,33 @@
 -- A text that is read as a record is what is written of it.
-use Rattle.std.proofs.Common.{All, List, None, Ok, Option, Result, Some, [], ap, append_assoc, codes, length, map, pos, refl, suc, subst, sym, zero, ℕ, ℤ, ◌++◌, ◌+◌, ◌-◌, ◌<◌, ◌^◌, ◌∙◌, ◌∷◌, ◌≡◌}
+use Rattle.std.proofs.Common.{All, List, None, Ok, Option, Result, Some, [], ap, append_assoc, codes, length, map, refl, suc, subst, sym, zero, ℕ, ℤ, ◌++◌, ◌+◌, ◌-◌, ◌<◌, ◌^◌, ◌∙◌, ◌∷◌, ◌≡◌}
 use Rattle.std.proofs.lemmas.List.Elements.{All-from_recursion}
 use Rattle.std.proofs.lemmas.List.Splits.{join_with_byte-slice_split}
-use Rattle.std.proofs.lemmas.Simd.{map-map}
 use Rattle.std.specs.Fmt.{decimal, signed_decimal}
-use Rattle.std.specs.List.{AllByRecursion, flat_map, join_with_byte, range_with_len}
+use Rattle.std.specs.List.{AllByRecursion, flat_map, join_with_byte}
 use Rattle.mb_kinds.proofs.ReadLines.{base_read, dataset_read, row_read_back, scale_read, sizes_read}
-use Rattle.mb_kinds.proofs.RecordSteps.{accepted_at, with_base, with_dataset, with_last, with_matrix, with_measure, with_rows, with_scale, with_sizes, with_version}
+use Rattle.mb_kinds.proofs.RecordSteps.{with_base, with_dataset, with_last, with_matrix, with_measure, with_rows, with_scale, with_sizes, with_version}
 use Rattle.mb_kinds.proofs.WrittenTexts.{text_is}
 use Rattle.mb_kinds.specs.Model.{IsModel, ModelValue}
-use Rattle.mb_kinds.specs.Record.{IsModelRecord, ModelRecord, base_items, row_lines, scale_items, written_record}
-use Rattle.mb_kinds.specs.RecordText.{base_in, dataset_in, measure_in, model_in, or_line, record_of, row_in, rows_in as rows_from, scale_in, sizes_in}
-use Rattle.mb_matrix.proofs.NoFault.{accepted, no_fault}
-use Rattle.mb_matrix.proofs.RowsAndColumns.{length-columns, rows-design_of, rows_in-design_of}
-use Rattle.mb_matrix.specs.Faults.{matrix_of}
-use Rattle.mb_matrix.specs.Matrix.{Design, IsDesign, row_of, rows_in}
-use Rattle.mb_matrix.specs.Measure.{IsMeasureOf, Scheme, Weighting, groups_of, measure_fault, measure_of, unless_fault}
+use Rattle.mb_kinds.specs.Record.{IsModelRecord, ModelRecord, base_items, scale_items, written_record}
+use Rattle.mb_moves.specs.Written.{row_lines}
+use Rattle.mb_kinds.specs.RecordText.{base_in, dataset_in, measure_in, model_in, record_of, row_in, rows_in as rows_from, scale_in, sizes_in}
+use Rattle.mb_text.specs.Faults.{or_line}
+use Rattle.mb_matrix.proofs.NoFault.{IsMatrixOf, matrix_accepted}
+use Rattle.mb_matrix.specs.Faults.{matrix_of, unless_fault}
+use Rattle.mb_matrix.specs.Matrix.{Design}
+use Rattle.mb_matrix.specs.Measure.{IsMeasureOf, Scheme, Weighting, groups_of, measure_fault, measure_of}
 use Rattle.mb_matrix.specs.declared.measure_fault.MeasureFault.{MeasureFault}
 use Rattle.mb_moves.proofs.RowsEndToEnd.{end_to_end, rows_of-end_to_end}
 use Rattle.mb_tables.specs.Answers.{◌>>=◌}
 use Rattle.mb_tables.specs.Rows.{Rows, array_of, rows_of}
 use Rattle.mb_text.proofs.ItemBytes.{items_again}
 use Rattle.mb_text.proofs.LineReaders.{exactly_read}
-use Rattle.mb_text.proofs.RecordSteps.{stepped}
+use Rattle.mb_text.proofs.RecordSteps.{accepted_at, stepped}
 use Rattle.mb_text.proofs.SaidLines.{ends_read, line_is, says_read}
 use Rattle.mb_text.specs.LineForms.{exactly}
 use Rattle.mb_text.specs.Lines.{items, line, lines}
 use Rattle.mb_text.specs.RecordLines.{ends, says}
+use Rattle.mb_moves.proofs.RowLines.{lines_of_rows}
 
 -- rows that were read
 record RowsRead (cells count : ℕ) (pieces : List (List ℕ)) (entries : List ℤ)
@@ -82,48 +83,17 @@ rows_read number cells (suc count) pieces entries rest e =
           ++ flat_map line (map (map signed_decimal) others.rows)) ++ join_with_byte 10 p.1) both;
     }
 
--- maps by equal functions
-same_maps : {X Y : Type 0} (f g : X → Y) → ((x : X) → f x ≡ g x) → (xs : List X) →
-    map f xs ≡ map g xs
-same_maps f g h [] = refl
-same_maps f g h (x ∷ xs) =
-    ap (λ y. y ∷ map f xs) (h x) ∙ ap (λ ys. g x ∷ ys) (same_maps f g h xs)
-
--- the lines of a matrix are those of its rows
-lines_of_rows : (matrix : Design) →
-    map (map signed_decimal) (rows_in matrix) ≡ row_lines matrix
-lines_of_rows matrix =
-    map-map (map signed_decimal) (λ i. map pos (row_of matrix i)) (range_with_len 0 matrix.rows)
-    ∙ same_maps (λ i. map signed_decimal (map pos (row_of matrix i)))
-    (λ i. map decimal (row_of matrix i)) (λ i. map-map signed_decimal pos (row_of matrix i))
-    (range_with_len 0 matrix.rows)
-
--- what a matrix is whose rows were read
-record MatrixRead (cells count : ℕ) (matrix : Design) (rows : List (List ℤ)) : Type 0 where
-  pub sound : IsDesign matrix
-  pub rows_are : rows_in matrix ≡ rows
-  pub high : matrix.rows ≡ count
-  pub long : length matrix.columns ≡ cells
-
--- so is each
+-- a matrix of rows that were read
 matrix_read : (cells count : ℕ) (matrix : Design) (rows : List (List ℤ)) → length rows ≡ count →
     All (λ row. length row ≡ cells) rows →
     matrix_of (array_of cells count (end_to_end rows)) ≡ Ok matrix →
-    MatrixRead cells count matrix rows
+    IsMatrixOf (record { width = cells; rows = rows }) matrix
 matrix_read cells count matrix rows many wide e =
     let made : ℕ → List (List ℤ) → Rows = λ w r. record { width = w; rows = r } in
-    let array : Rows = record { width = cells; rows = rows } in
-    let same : array_of cells count (end_to_end rows) ≡ array =
+    let same : array_of cells count (end_to_end rows) ≡ made cells rows =
     ap (λ n. made cells (rows_of cells n (end_to_end rows))) (sym many)
     ∙ ap (made cells) (rows_of-end_to_end cells rows wide) in
-    let is = accepted array matrix (sym (ap matrix_of same) ∙ e) in
-    let no = no_fault array wide is.0 in
-    record {
-      sound = subst IsDesign (sym is.1) no.design;
-      rows_are = ap rows_in is.1 ∙ rows_in-design_of array wide no.entries;
-      high = ap (λ (m : Design). m.rows) is.1 ∙ rows-design_of array ∙ many;
-      long = ap (λ (m : Design). length m.columns) is.1 ∙ length-columns array;
-    }
+    matrix_accepted (made cells rows) matrix wide (sym (ap matrix_of same) ∙ e)
 
 -- a measure that is accepted has its scale and base
 measure_is : (matrix : Design) (scale : Scheme) (base : List ℕ) (measure : Weighting) →
@@ -235,9 +205,9 @@ model_read number sizes pieces model e =
     let same : whole ≡ model = cc in
     let found : ModelRead sizes pieces whole =
     record {
-      sound = record { design = matrix.sound; weighted = measure.is };
+      sound = record { design = matrix.design; weighted = measure.is };
       fits = measure.fits;
-      high = matrix.high;
+      high = matrix.high ∙ rows.many;
       long = matrix.long;
       joined =
           rows.joined

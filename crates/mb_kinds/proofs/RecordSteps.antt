@@ -1,8 +1,9 @@
 -- The steps of reading a record, one after the other.
-use Rattle.std.proofs.Common.{Err, List, Ok, Result, ap, ℕ, ℤ, ◌+◌, ◌-◌, ◌≡◌}
+use Rattle.std.proofs.Common.{List, Ok, Result, ℕ, ℤ, ◌+◌, ◌-◌}
 use Rattle.mb_kinds.specs.Model.{ModelValue}
 use Rattle.mb_kinds.specs.Record.{ModelRecord}
-use Rattle.mb_kinds.specs.RecordText.{base_in, dataset_in, measure_in, model_in, or_line, sizes_in}
+use Rattle.mb_kinds.specs.RecordText.{base_in, dataset_in, measure_in, model_in, sizes_in}
+use Rattle.mb_text.specs.Faults.{or_line}
 use Rattle.std.specs.Prelude.{codes, length}
 use Rattle.mb_matrix.specs.Faults.{matrix_of}
 use Rattle.mb_matrix.specs.Matrix.{Design}
@@ -11,12 +12,6 @@ use Rattle.mb_tables.specs.Answers.{◌>>=◌}
 use Rattle.mb_tables.specs.Rows.{array_of}
 use Rattle.mb_text.specs.LineForms.{exactly}
 use Rattle.mb_text.specs.RecordLines.{ends, says}
-
--- what is refused at a line goes on only where it is accepted
-pub accepted_at : {A F : Type 0} (number : ℕ) (r : Result A F) (x : A) → or_line number r ≡ Ok x →
-    r ≡ Ok x
-accepted_at number (Ok y) x e = ap Ok cc
-accepted_at number (Err fault) x e = absurd cc
 
 -- after the name and the sizes
 abbrev pub with_sizes : List ℕ → (ℕ × ℕ) × List (List ℕ) → Result ModelRecord ℕ

@@ -1,7 +1,7 @@
 -- Rows of a record text, read one after the other.
-use Rattle.std.proofs.Common.{Err, List, None, Ok, Option, Result, Some, ap, append_assoc, append-nil, refl, suc, sym, zero, ℕ, ℤ, ◌++◌, ◌+◌, ◌∙◌, ◌≡◌}
+use Rattle.std.proofs.Common.{Err, List, Ok, Result, ap, append_assoc, append-nil, refl, suc, sym, zero, ℕ, ℤ, ◌++◌, ◌+◌, ◌∙◌, ◌≡◌}
 use Rattle.mb_kinds.specs.RecordText.{row_in, rows_in}
-use Rattle.mb_tables.specs.Answers.{IsRefused, ◌>>=◌}
+use Rattle.mb_tables.specs.Answers.{◌>>=◌}
 use Rattle.mb_text.specs.RecordLines.{says}
 
 -- what was read stands in front of what is read then
@@ -53,10 +53,3 @@ unfolding rows_in
 rows_read front number cells left pieces none =
     ap (λ n. with_front front (rows_in number cells n pieces)) none
     ∙ ap (λ entries. Ok (entries, pieces)) (append-nil front)
-
--- a refusal of one reading is that of another that stops where the first does
-pub refused_on : {X Y : Type 0} (cause : Option ℕ) (first : Result X ℕ) (whole : Result Y ℕ) →
-    IsRefused cause first → ((wrong : ℕ) → first ≡ Err wrong → whole ≡ Err wrong) →
-    IsRefused cause whole
-refused_on None first whole h on = tt
-refused_on (Some wrong) first whole h on = on wrong h

@@ -27,7 +27,8 @@ pub rows_more : (f : List ℕ → List (List ℤ)) (generators : List (List ℕ)
     → i < length generators → get_or generators i g ≡ g
     → flat_map f (take (i + 1) generators) ≡ flat_map f (take i generators) ++ f g
 rows_more f generators i g within at =
-    ap (flat_map f) (take_more generators i g within ∙ ap (λ (h : List ℕ). take i generators ++ h ∷ []) at)
+    ap (flat_map f) (take_more generators i g within
+    ∙ ap (λ (h : List ℕ). take i generators ++ h ∷ []) at)
     ∙ sym (flat_map_more f [] (take i generators) g)
 
 -- so many are left at least
@@ -43,7 +44,8 @@ rows_left f generators i g within at =
 pub length-margin_rows : (table : CrossTable) (generator : List ℕ)
     → length (margin_rows table generator) ≡ margin_size table generator
 length-margin_rows table generator =
-    length-map-range_with_len (λ k. level_row table generator (combination (sizes_of table.levels generator) k))
+    length-map-range_with_len (λ k. level_row table generator
+    (combination (sizes_of table.levels generator) k))
     0 (margin_size table generator)
 
 -- end to end, one after the other
@@ -55,7 +57,8 @@ pub cells_within : (table : CrossTable) → IsCrossTable table
     → All (λ cell. cell < combinations (sizes table.levels)) (cell_numbers table.entries)
 cells_within table is k d within =
     let cell = get_or (cell_numbers table.entries) k d in
-    let there = place-in (cell_numbers table.entries) k cell (slice_get-get_or (cell_numbers table.entries) k d within) in
+    let there = place-in (cell_numbers table.entries) k cell
+    (slice_get-get_or (cell_numbers table.entries) k d within) in
     let kept = In-filter_only _ cell (range_with_len 0 (length table.entries)) there in
     let bounds = range-only 0 (length table.entries) cell kept in
     let upper = bounds.1 in

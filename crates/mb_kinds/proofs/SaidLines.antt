@@ -10,11 +10,12 @@ use Rattle.mb_kinds.specs.Record.{base_items, scale_items}
 use Rattle.mb_kinds.specs.RecordText.{as_many, base_in, fixed_by, scale_in, scheme_in, sizes_in, two_sizes}
 use Rattle.mb_matrix.proofs.FirstFaults.{is_size-true}
 use Rattle.mb_matrix.proofs.FirstFound.{position_range-Some}
-use Rattle.mb_matrix.specs.Faults.{is_size}
+use Rattle.mb_matrix.specs.Faults.{is_size, unless_fault}
 use Rattle.mb_matrix.specs.Matrix.{Design, IsDesign}
-use Rattle.mb_matrix.specs.Measure.{IsMeasureOf, RowMargins, Scheme, Total, Weighting, base_fault, has_cell, is_group_row, rows_fault, scale_fault, uncovered, unless_fault}
+use Rattle.mb_matrix.specs.Measure.{IsMeasureOf, RowMargins, Scheme, Total, Weighting, base_fault, has_cell, is_group_row, rows_fault, scale_fault, uncovered}
 use Rattle.mb_matrix.specs.declared.measure_fault.MeasureFault.{MeasureFault}
 use Rattle.mb_matrix.specs.declared.measure_fault.MeasureFault.TheVariants.{BadScaleRow, ScaleNotCover}
+use Rattle.mb_tables.proofs.OptionLaws.{or-none, unmapped}
 use Rattle.mb_text.proofs.ItemBytes.{are_items, decimals_are_items, items_again}
 use Rattle.mb_text.proofs.LineReaders.{numbers_after_written}
 use Rattle.mb_text.proofs.NumberLists.{numbers_written}
@@ -53,17 +54,6 @@ none_found {X} p (x ∷ xs) e = by (p x) refl e (none_found p xs)
     by true f g ih = absurd cc
     by false f g ih = (f, ih g)
 
--- two faults, neither of which is there
-neither : (first second : Option MeasureFault) → option_or first second ≡ None →
-    (first ≡ None) × (second ≡ None)
-neither None second e = (refl, e)
-neither (Some fault) second e = absurd cc
-
--- a mapped value that isn't there
-unmapped : {X Y : Type 0} (f : X → Y) (x : Option X) → option_map f x ≡ None → x ≡ None
-unmapped f None e = refl
-unmapped f (Some x) e = absurd cc
-
 -- a row of zeros and ones is one of the matrix
 low_row : (matrix : Design) (n : ℕ) → not (is_group_row matrix n) ≡ false → n ≤ matrix.rows
 low_row matrix n e = grind (arith, nat_tests, e)
@@ -73,7 +63,7 @@ pub rows_fit : (matrix : Design) (rows : List ℕ) → IsDesign matrix →
     rows_fault matrix rows ≡ None → All (λ n. n < 2 ^ 32) rows
 rows_fit matrix rows sound e k d l =
     let bad = unmapped BadScaleRow (find (λ n. not (is_group_row matrix n)) rows)
-    (neither (option_map BadScaleRow (find (λ n. not (is_group_row matrix n)) rows))
+    (or-none (option_map BadScaleRow (find (λ n. not (is_group_row matrix n)) rows))
     (option_map ScaleNotCover (uncovered matrix rows)) e).0 in
     let group =
     All-from_recursion (λ n. not (is_group_row matrix n) ≡ false) rows
@@ -86,7 +76,7 @@ rows_fit matrix rows sound e k d l =
 pub no_rows : (matrix : Design) → IsDesign matrix → rows_fault matrix [] ≡ None → ⊥
 no_rows matrix sound e =
     let none = unmapped ScaleNotCover (uncovered matrix [])
-    (neither (option_map BadScaleRow (find (λ n. not (is_group_row matrix n)) []))
+    (or-none (option_map BadScaleRow (find (λ n. not (is_group_row matrix n)) []))
     (option_map ScaleNotCover (uncovered matrix [])) e).1 in
     let first : uncovered matrix [] ≡ Some 0 =
     position_range-Some (λ cell. not (count_by (has_cell matrix cell) [] == 1))

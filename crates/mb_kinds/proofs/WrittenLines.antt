@@ -4,9 +4,11 @@ use Rattle.std.proofs.lemmas.Grind.{flat_map-append}
 use Rattle.std.proofs.lemmas.List.FromFn.{map-range_with_len_more}
 use Rattle.std.specs.Fmt.{decimal}
 use Rattle.std.specs.List.{flat_map, range_with_len}
-use Rattle.mb_kinds.specs.Record.{ModelRecord, base_items, head_lines, row_lines, scale_items, written_record}
-use Rattle.mb_matrix.specs.Matrix.{Design, row_of}
+use Rattle.mb_kinds.specs.Record.{ModelRecord, base_items, head_lines, scale_items, written_record}
+use Rattle.mb_matrix.specs.Matrix.{Design}
 use Rattle.mb_matrix.specs.Measure.{Scheme, Weighting}
+use Rattle.mb_moves.specs.Written.{row_lines}
+use Rattle.mb_text.proofs.SaidLines.{end_line}
 use Rattle.mb_text.specs.Lines.{line}
 
 -- the first line
@@ -31,11 +33,6 @@ pub rows_line : (rows : List (List ℕ)) →
 unfolding line
 rows_line rows = refl
 
--- the last line
-pub last_line : codes "end\n" ≡ line (codes "end" ∷ [])
-unfolding line
-last_line = refl
-
 -- one more line of those of numbers from 0 on
 pub line_more : (before : List ℕ) (items : ℕ → List (List ℕ)) (row : ℕ) →
     (before ++ flat_map line (map items (range_with_len 0 row))) ++ line (items row)
@@ -56,20 +53,6 @@ scale_written before a b rows ea eb =
     eb ∙ ap (λ t. t ++ line (codes "rows" ∷ rows)) ea
     ∙ append_assoc before (codes "scale ") (line (codes "rows" ∷ rows))
     ∙ ap (λ t. before ++ t) (rows_line rows)
-
--- a row of a matrix is written behind those before it
-pub row_written : (matrix : Design) (before a b row : List ℕ) (i : ℕ) →
-    b ≡ a ++ line (map decimal row) →
-    a ≡ before ++ flat_map line (map (λ i. map decimal (row_of matrix i)) (range_with_len 0 i)) →
-    row ≡ row_of matrix i →
-    b ≡ before
-    ++ flat_map line (map (λ i. map decimal (row_of matrix i)) (range_with_len 0 (i + 1)))
-row_written matrix before a b row i eb ea er =
-    eb ∙ ap (λ t. t ++ line (map decimal row)) ea
-    ∙ ap (λ row. (before
-    ++ flat_map line (map (λ i. map decimal (row_of matrix i)) (range_with_len 0 i)))
-    ++ line (map decimal row)) er
-    ∙ line_more before (λ i. map decimal (row_of matrix i)) i
 
 -- what the lines that begin a record are put behind
 pub head_written : (before a b c d e bytes name matrix : List ℕ) → bytes ≡ name →
@@ -123,7 +106,7 @@ all_written entry a b c d e ea eb ec ed ee =
     ap (λ t. scale ++ (base ++ t)) (append-nil last) in
     let head_is : flat_map line (head_lines entry) ≡ head =
     ap (λ t. first ++ (second ++ t)) (append-nil third) in
-    ee ∙ ap (λ t. d ++ t) last_line
+    ee ∙ ap (λ t. d ++ t) end_line
     ∙ ap (λ t. t ++ last) (ed ∙ ap (λ t. t ++ base) (ec ∙ ap (λ t. t ++ scale)
     (eb ∙ ap (λ t. t ++ rows) ea)))
     ∙ append_assoc ((head ++ rows) ++ scale) base last

@@ -1,8 +1,6 @@
 -- What is written of a record is read as the record.
 use Rattle.std.proofs.Common.{All, List, None, Ok, Option, Result, Some, [], ap, append_assoc, arith, cond, length, map, pos, refl, true, ℕ, ℤ, ◌&&◌, ◌++◌, ◌+◌, ◌-◌, ◌<◌, ◌^◌, ◌∙◌, ◌∷◌, ◌≡◌, ◌≤◌, ◌≢◌}
 use Rattle.std.proofs.lemmas.Bool.{eq-eqb}
-use Rattle.std.proofs.lemmas.Bool.Decides.{nat_tests}
-use Rattle.std.proofs.lemmas.Int.{ints}
 use Rattle.std.proofs.lemmas.List.{get_or-map, length-map}
 use Rattle.std.proofs.lemmas.List.Elements.{All-head, All-tail}
 use Rattle.std.proofs.lemmas.List.Sums.{list_all-from_AllPass}
@@ -10,7 +8,8 @@ use Rattle.std.specs.Fmt.{decimal}
 use Rattle.std.specs.List.{flat_map, join_with_byte, list_all}
 use Rattle.std.specs.Option.{option_and_then}
 use Rattle.mb_kinds.proofs.NumberItems.{entries_written}
-use Rattle.mb_kinds.specs.RecordText.{is_design_entry, row_in, rows_in as rows_from, whole_row}
+use Rattle.mb_kinds.specs.RecordText.{row_in, rows_in as rows_from, whole_row}
+use Rattle.mb_matrix.specs.Matrix.{is_design_entry}
 use Rattle.mb_moves.proofs.RowsEndToEnd.{end_to_end}
 use Rattle.mb_tables.specs.Answers.{◌>>=◌}
 use Rattle.mb_text.proofs.ItemBytes.{are_items, decimals_are_items, items_again}
@@ -19,15 +18,12 @@ use Rattle.mb_text.proofs.SaidLines.{says_written}
 use Rattle.mb_text.specs.Lines.{line, lines}
 use Rattle.mb_text.specs.Plain.{each_of, plain_signed_of, size_at_most}
 use Rattle.mb_text.specs.RecordLines.{says}
+use Rattle.mb_matrix.proofs.MatrixOfRows.{small-is_entry}
 
 -- so many entries up to 1,000
 pub record IsRow (cells : ℕ) (row : List ℕ) : Type 0 where
   pub long : length row ≡ cells
   pub small : All (λ n. n ≤ 1000) row
-
--- numbers up to 1,000 are entries
-entries_are : (n : ℕ) → n ≤ 1000 → is_design_entry (pos n) ≡ true
-entries_are n small = grind (arith, ints, nat_tests)
 
 -- a row is whole
 row_is_whole : (cells : ℕ) (row : List ℕ) → IsRow cells row →
@@ -39,7 +35,7 @@ row_is_whole cells row is =
     (list_all-from_AllPass is_design_entry (map pos row)
     (λ k d l.
     let m : k < length row = let e = length-map row pos in omega arith in
-    ap is_design_entry (get_or-map pos row k 0 d m) ∙ entries_are _ (is.small k 0 m)))
+    ap is_design_entry (get_or-map pos row k 0 d m) ∙ small-is_entry _ (is.small k 0 m)))
 
 -- the entries that items are
 abbrev entries_in : List (List ℕ) → Option (List ℤ)

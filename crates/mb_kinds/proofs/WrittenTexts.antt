@@ -1,19 +1,21 @@
 -- The text that is written of a record is read as the record.
 use Rattle.std.proofs.Common.{All, List, Ok, [], ap, arith, codes, length, map, pos, refl, subst, sym, ℕ, ◌++◌, ◌+◌, ◌-◌, ◌<◌, ◌^◌, ◌∙◌, ◌∷◌, ◌≡◌}
-use Rattle.std.proofs.lemmas.Grind.{flat_map-append, get_or_default_zero}
+use Rattle.std.proofs.lemmas.Grind.{flat_map-append}
 use Rattle.std.proofs.lemmas.List.FromFn.{get_or-map-range_with_len, length-map-range_with_len}
 use Rattle.std.proofs.lemmas.List.{length-map}
 use Rattle.std.proofs.lemmas.Simd.{map-map}
 use Rattle.std.specs.Fmt.{decimal}
 use Rattle.std.specs.List.{flat_map, range_with_len}
-use Rattle.mb_matrix.proofs.MatrixOfRows.{is_of_rows, row_long, rows_array}
+use Rattle.mb_matrix.proofs.MatrixOfRows.{is_of_rows, row_long, row_small, rows_array}
 use Rattle.mb_kinds.proofs.RecordSteps.{with_base, with_dataset, with_last, with_matrix, with_measure, with_rows, with_scale, with_sizes, with_version}
 use Rattle.mb_kinds.proofs.SaidLines.{base_said, no_scale_fault, scale_are_items, scale_said, sizes_items, sizes_said}
 use Rattle.mb_kinds.proofs.WrittenRecords.{IsRow, rows_written}
 use Rattle.mb_kinds.specs.Model.{IsModel, ModelValue}
-use Rattle.mb_kinds.specs.Record.{IsModelRecord, ModelRecord, base_items, row_lines, scale_items, written_record}
-use Rattle.mb_kinds.specs.RecordText.{base_in, measure_in, model_in, or_line, record_of, rows_in as rows_from, scale_in, sizes_in}
-use Rattle.mb_matrix.proofs.RowsAndColumns.{entry_small, get_or-rows_in, length-rows_in}
+use Rattle.mb_kinds.specs.Record.{IsModelRecord, ModelRecord, base_items, scale_items, written_record}
+use Rattle.mb_moves.specs.Written.{row_lines}
+use Rattle.mb_kinds.specs.RecordText.{base_in, measure_in, model_in, record_of, rows_in as rows_from, scale_in, sizes_in}
+use Rattle.mb_text.specs.Faults.{or_line}
+use Rattle.mb_matrix.proofs.RowsAndColumns.{get_or-rows_in, length-rows_in}
 use Rattle.mb_matrix.specs.Faults.{matrix_of}
 use Rattle.mb_matrix.specs.Matrix.{Design, IsDesign, row_of, rows_in}
 use Rattle.mb_matrix.specs.Measure.{IsMeasureOf, Weighting}
@@ -37,12 +39,7 @@ module _ (matrix : Design) (sound : IsDesign matrix) where
   is_row : (i : ℕ) → i < matrix.rows → IsRow (length matrix.columns) (row_of matrix i)
   is_row i l = record {
     long = row_long matrix sound i;
-    small =
-        λ k d m.
-        let wide : k < length matrix.columns = let e = row_long matrix sound i in omega arith in
-        let same = get_or_default_zero (row_of matrix i) k d m in
-        let small = entry_small matrix i k sound l wide in
-        omega arith;
+    small = row_small matrix sound i l;
   }
 
   -- all are

@@ -1,12 +1,12 @@
 -- The record of a model, and its written form.
 use Rattle.std.specs.Fmt.{decimal}
-use Rattle.std.specs.List.{flat_map, range_with_len}
+use Rattle.std.specs.List.{flat_map}
 use Rattle.std.specs.Prelude.{All, List, [], codes, length, map, ℕ, ◌++◌, ◌<◌, ◌^◌, ◌∷◌}
 use Rattle.mb_kinds.specs.Model.{IsModel, ModelValue}
-use Rattle.mb_matrix.specs.Matrix.{Design, row_of}
 use Rattle.mb_matrix.specs.Measure.{RowMargins, Scheme, Total}
 use Rattle.mb_text.specs.Lines.{line}
 use Rattle.mb_text.specs.Name.{IsName}
+use Rattle.mb_moves.specs.Written.{row_lines}
 
 -- a model, and the name of its dataset
 pub record ModelRecord : Type 0 where
@@ -27,11 +27,6 @@ head_lines entry =
     ∷ (codes "matrix" ∷ decimal entry.model.matrix.rows
     ∷ decimal (length entry.model.matrix.columns) ∷ [])
     ∷ []
-
--- those of the rows of the matrix
-abbrev pub row_lines : Design → List (List (List ℕ))
-row_lines matrix =
-    map (λ i. map decimal (row_of matrix i)) (range_with_len 0 matrix.rows)
 
 -- those of the scale
 abbrev pub scale_items : Scheme → List (List ℕ)

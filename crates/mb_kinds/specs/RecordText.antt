@@ -1,13 +1,12 @@
 -- The model record that a text is, or its first wrong line. Lines count from 1.
 use Rattle.std.specs.List.{list_all}
 use Rattle.std.specs.Option.{is_none, option_and_then, option_map}
-use Rattle.std.specs.Prelude.{Bool, Err, List, None, Ok, Option, Result, Some, [], codes, if◌then◌else◌, int_le, length, pos, suc, zero, ℕ, ℤ, ◌&&◌, ◌++◌, ◌+◌, ◌-◌, ◌==◌, ◌^◌, ◌∷◌}
+use Rattle.std.specs.Prelude.{List, None, Ok, Option, Result, Some, [], codes, if◌then◌else◌, length, suc, zero, ℕ, ℤ, ◌&&◌, ◌++◌, ◌+◌, ◌-◌, ◌==◌, ◌^◌, ◌∷◌}
 use Rattle.std.specs.Str.{bytes_eq}
 use Rattle.mb_kinds.specs.Model.{ModelValue}
 use Rattle.mb_kinds.specs.Record.{ModelRecord}
 use Rattle.mb_matrix.specs.Faults.{is_size, matrix_of}
-use Rattle.mb_matrix.specs.Limits.{largest_entry}
-use Rattle.mb_matrix.specs.Matrix.{Design}
+use Rattle.mb_matrix.specs.Matrix.{Design, is_design_entry}
 use Rattle.mb_matrix.specs.Measure.{RowMargins, Scheme, Total, Weighting, measure_of, scale_fault}
 use Rattle.mb_tables.specs.Answers.{◌>>=◌}
 use Rattle.mb_tables.specs.Rows.{array_of}
@@ -15,6 +14,7 @@ use Rattle.mb_text.specs.LineForms.{after, exactly, name_after, numbers_after, p
 use Rattle.mb_text.specs.Lines.{items, lines}
 use Rattle.mb_text.specs.Plain.{each_of, plain_signed_of, size_at_most}
 use Rattle.mb_text.specs.RecordLines.{ends, says}
+use Rattle.mb_text.specs.Faults.{or_line}
 
 -- the name of the dataset
 abbrev pub dataset_in : List ℕ → Option (List ℕ)
@@ -28,10 +28,6 @@ two_sizes _ = None
 -- the numbers of rows and of cells
 abbrev pub sizes_in : List ℕ → Option (ℕ × ℕ)
 sizes_in line = option_and_then two_sizes (numbers_after (codes "matrix") (items line))
-
--- whether an entry is 0 to 1,000
-abbrev pub is_design_entry : ℤ → Bool
-is_design_entry entry = int_le (pos 0) entry && int_le entry (pos largest_entry)
 
 -- a row of so many cells
 abbrev pub whole_row : ℕ → List ℤ → Option (List ℤ)
@@ -74,11 +70,6 @@ as_many cells numbers = passing (λ list. length list == cells) numbers
 -- the base numbers of so many cells
 abbrev pub base_in : ℕ → List ℕ → Option (List ℕ)
 base_in cells line = option_and_then (as_many cells) (numbers_after (codes "base") (items line))
-
--- what is refused as a whole is wrong at this line
-abbrev pub or_line : {A F : Type 0} → ℕ → Result A F → Result A ℕ
-or_line number (Ok x) = Ok x
-or_line number (Err fault) = Err number
 
 -- the scale and the base on a matrix, from the line of this number on to the end of the text. The
 -- scale is decided at its own line, and what is then refused at that of the base

@@ -2,7 +2,8 @@
 
 ghost use Rattle.std.specs.Prelude.{◌≡◌, ◌≤◌, ◌+◌, ◌*◌, length};
 ghost use Rattle.std.specs.String.{string_bytes};
-ghost use Rattle.mb_kinds.specs.RecordText.{model_in, or_line, record_of};
+ghost use Rattle.mb_kinds.specs.RecordText.{model_in, record_of};
+ghost use Rattle.mb_text.specs.Faults.{or_line};
 ghost use Rattle.mb_matrix.specs.Faults.{matrix_of};
 ghost use Rattle.mb_tables.specs.Answers.{Gives};
 ghost use Rattle.mb_tables.specs.Limits.{most_cells};

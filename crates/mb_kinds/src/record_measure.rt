@@ -1,11 +1,11 @@
 //! The scale and the base in a record text.
 
 ghost use Rattle.std.specs.Prelude.{◌≡◌, ◌≤◌, ◌+◌, IfOk, length};
-ghost use Rattle.mb_kinds.specs.RecordText.{base_in, measure_in, or_line, scale_in, scheme_in};
+ghost use Rattle.mb_kinds.specs.RecordText.{base_in, measure_in, scale_in, scheme_in};
 ghost use Rattle.mb_matrix.specs.Measure.{IsMeasureOf, measure_of};
 ghost use Rattle.mb_matrix.specs.Scheme.{scheme_of};
 ghost use Rattle.mb_tables.specs.Answers.{Gives};
-ghost use Rattle.mb_text.specs.Faults.{in_line};
+ghost use Rattle.mb_text.specs.Faults.{in_line, or_line};
 ghost use Rattle.mb_text.specs.Lines.{lines};
 ghost use Rattle.mb_text.specs.RecordLines.{record_cause, says};
 

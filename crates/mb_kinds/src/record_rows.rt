@@ -1,8 +1,7 @@
 //! The rows of the matrix in a record text.
 
-ghost use Rattle.std.specs.List.{list_all};
 ghost use Rattle.std.specs.Prelude.{◌≡◌, ◌≤◌, ◌*◌, ◌-◌, ◌^◌, IfOk, length};
-ghost use Rattle.mb_kinds.specs.RecordText.{is_design_entry, row_in, rows_in};
+ghost use Rattle.mb_kinds.specs.RecordText.{row_in, rows_in};
 ghost use Rattle.mb_tables.specs.Answers.{Gives};
 ghost use Rattle.mb_tables.specs.Limits.{most_cells};
 ghost use Rattle.mb_text.specs.Faults.{in_line};
@@ -10,17 +9,9 @@ ghost use Rattle.mb_text.specs.Lines.{items, lines};
 ghost use Rattle.mb_text.specs.Plain.{each_of, plain_signed_of, size_at_most};
 ghost use Rattle.mb_text.specs.RecordLines.{record_cause, says};
 
-use mb_matrix::LARGEST_ENTRY;
+use mb_matrix::are_design_entries;
 use mb_text::{LineFault, RecordFault, read_numbers, take_line};
 use std::alloc::Global;
-
-/// Whether each number is an entry of a design matrix.
-fn are_design_entries(row: &[i32]) -> bool
-    ensures { result ≡ list_all is_design_entry row.now }
-{
-    row.iter()
-        .all(|entry| 0 <= *entry && *entry <= LARGEST_ENTRY)
-}
 
 /// The numbers of a line, which may be below 0.
 fn signed_numbers(alloc: Global, line: &[u8], number: u32) -> Result<Vec<i32>, RecordFault>

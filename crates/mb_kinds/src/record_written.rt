@@ -1,18 +1,18 @@
 //! The written form of a model record.
 
 ghost use Rattle.std.specs.Fmt.{decimal};
-ghost use Rattle.std.specs.List.{flat_map};
 ghost use Rattle.std.specs.Prelude.{◌≡◌, ◌++◌, ◌∷◌, [], IfOk, OnOk, codes};
-ghost use Rattle.mb_kinds.specs.Record.{row_lines, scale_items, written_record};
+ghost use Rattle.mb_kinds.specs.Record.{scale_items, written_record};
 ghost use Rattle.mb_matrix.specs.Measure.{RowMargins, Total};
 ghost use Rattle.mb_matrix.specs.Scheme.{scheme_of};
 ghost use Rattle.mb_text.specs.Lines.{line};
 ghost use Rattle.mb_text.specs.Name.{IsName};
 
 use crate::model::Model;
-use mb_matrix::{Matrix, Scale};
+use mb_matrix::Scale;
+use mb_moves::push_rows;
 use mb_tables::OutOfMemory;
-use mb_text::{push_line, push_text, push_word_line};
+use mb_text::{push_text, push_word_line};
 use std::alloc::Global;
 
 /// Puts the lines that begin a record at the end of a text.
@@ -27,17 +27,6 @@ fn push_head(out: &mut Vec<u8>, dataset: &str, rows: u32, cells: u32) -> Result<
     push_text(out, dataset.as_bytes())?;
     push_text(out, b"\n")?;
     push_word_line(out, b"matrix", &[rows, cells])?;
-    Ok(())
-}
-
-/// Puts the rows of a matrix at the end of a text.
-fn push_rows(out: &mut Vec<u8>, matrix: &Matrix) -> Result<(), OutOfMemory>
-    ensures { OnOk result
-        (out.new.items ≡ out.old.items ++ flat_map line (row_lines matrix.now)) }
-{
-    for row in 0..matrix.rows() {
-        push_line(out, matrix.row(row))?;
-    }
     Ok(())
 }
 

@@ -5,12 +5,13 @@ use Rattle.std.proofs.lemmas.Bool.Decides.{nat_tests}
 use Rattle.std.proofs.lemmas.List.FromFn.{get_or-map-range_with_len, get_or-range_with_len, length-range_with_len}
 use Rattle.std.proofs.lemmas.List.Sums.{fails_before_first, passes_at_first, sum_by-cons}
 use Rattle.std.specs.List.{count_by, find, position, position_or_len, range_with_len}
-use Rattle.std.specs.Option.{option_or}
 use Rattle.std.specs.Prelude.{option_map}
+use Rattle.mb_matrix.specs.Faults.{unless_fault}
 use Rattle.mb_matrix.specs.Matrix.{Design}
-use Rattle.mb_matrix.specs.Measure.{IsMeasureOf, RowMargins, Weighting, group_at, groups_of, has_cell, is_group_row, measure_fault, numbered_row, scale_fault, uncovered, unless_fault}
+use Rattle.mb_matrix.specs.Measure.{IsMeasureOf, RowMargins, Weighting, group_at, groups_of, has_cell, is_group_row, measure_fault, numbered_row, scale_fault, uncovered}
 use Rattle.mb_matrix.specs.declared.measure_fault.MeasureFault.{MeasureFault}
 use Rattle.mb_matrix.specs.declared.measure_fault.MeasureFault.TheVariants.{BadScaleRow, ScaleNotCover}
+use Rattle.mb_tables.proofs.OptionLaws.{or-none}
 use Rattle.mb_tables.specs.Vectors.{at}
 
 -- 1 for an element that passes
@@ -99,12 +100,6 @@ none_passes p n k e l =
     ap p (same ∙ sym (get_or-range_with_len 0 n k 0 l))
     ∙ fails_before_first p (range_with_len 0 n) k 0 (omega arith)
 
--- two faults, neither of which is there
-neither : (first second : Option MeasureFault) → option_or first second ≡ None →
-    (first ≡ None) × (second ≡ None)
-neither None second e = (refl, e)
-neither (Some fault) second e = absurd cc
-
 -- a cell's fault that isn't there
 uncovered_none : (cell : Option ℕ) → option_map ScaleNotCover cell ≡ None → cell ≡ None
 uncovered_none None e = refl
@@ -141,10 +136,10 @@ groups_part matrix measure is rows scale cell l =
     let known = made matrix measure is in
     let p = has_cell matrix cell in
     let fixed =
-    (neither (scale_fault matrix measure.scale) _ known.0).0 in
+    (or-none (scale_fault matrix measure.scale) _ known.0).0 in
     let covered =
     uncovered_none (uncovered matrix rows)
-    (neither (option_map BadScaleRow (find (λ n. not (is_group_row matrix n)) rows)) _
+    (or-none (option_map BadScaleRow (find (λ n. not (is_group_row matrix n)) rows)) _
     (sym (ap (scale_fault matrix) scale) ∙ fixed)).1 in
     let once =
     none_passes (λ c. not (count_by (has_cell matrix c) rows == 1)) (length matrix.columns) cell

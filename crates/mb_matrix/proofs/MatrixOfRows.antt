@@ -1,6 +1,7 @@
 -- A design matrix is the one of its rows.
-use Rattle.std.proofs.Common.{Bool, None, Ok, [], ap, arith, false, get_or, length, map, pos, unsigned_abs, ℕ, ℤ, ◌<◌, ◌∙◌, ◌≡◌, ◌≤◌}
+use Rattle.std.proofs.Common.{All, Bool, true, None, Ok, [], ap, arith, false, get_or, length, map, pos, unsigned_abs, ℕ, ℤ, ◌<◌, ◌∙◌, ◌≡◌, ◌≤◌}
 use Rattle.std.proofs.lemmas.Bool.Decides.{nat_tests}
+use Rattle.std.proofs.lemmas.Grind.{get_or_default_zero}
 use Rattle.std.proofs.lemmas.Int.{ints}
 use Rattle.std.proofs.lemmas.List.{get_or-map, length-map}
 use Rattle.std.proofs.lemmas.List.Elements.{All-from_recursion}
@@ -10,7 +11,7 @@ use Rattle.mb_matrix.proofs.RowsAndColumns.{at-column_of, entry_small, get_or-co
 use Rattle.mb_matrix.specs.Faults.{first_cell, is_large, is_negative, is_size, matrix_of}
 use Rattle.mb_matrix.specs.Fiber.{IsColumn}
 use Rattle.mb_matrix.specs.Limits.{largest_entry}
-use Rattle.mb_matrix.specs.Matrix.{Design, IsDesign, column_at, column_of, design_of, row_of, rows_in}
+use Rattle.mb_matrix.specs.Matrix.{Design, IsDesign, column_at, column_of, design_of, is_design_entry, row_of, rows_in}
 use Rattle.mb_tables.proofs.ListLaws.{same_at}
 use Rattle.mb_tables.proofs.VectorLaws.{same_places}
 use Rattle.mb_tables.specs.Rows.{Rows}
@@ -28,6 +29,10 @@ not_large n small = grind (arith, ints, nat_tests)
 abbrev pub rows_array : Design → Rows
 rows_array matrix = record { width = length matrix.columns; rows = rows_in matrix }
 
+-- a number up to 1,000 is an entry
+pub small-is_entry : (n : ℕ) → n ≤ 1000 → is_design_entry (pos n) ≡ true
+small-is_entry n small = grind (arith, ints, nat_tests)
+
 module _ (matrix : Design) (sound : IsDesign matrix) where
   -- what is known of a column
   column : (j : ℕ) → j < length matrix.columns → IsColumn matrix.rows (column_at matrix j)
@@ -36,6 +41,14 @@ module _ (matrix : Design) (sound : IsDesign matrix) where
   -- a row has a number a cell
   pub row_long : (i : ℕ) → length (row_of matrix i) ≡ length matrix.columns
   row_long i = length-map matrix.columns (λ column. at column i)
+
+  -- the numbers of a row are small
+  pub row_small : (i : ℕ) → i < matrix.rows → All (λ n. n ≤ 1000) (row_of matrix i)
+  row_small i l k d m =
+      let wide : k < length matrix.columns = let e = row_long i in omega arith in
+      let same = get_or_default_zero (row_of matrix i) k d m in
+      let small = entry_small matrix i k sound l wide in
+      omega arith
 
   -- an entry of the rows
   entry_is : (i j : ℕ) → i < matrix.rows → j < length matrix.columns →

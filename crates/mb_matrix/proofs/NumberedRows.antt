@@ -12,6 +12,7 @@ pub no_row_has : (matrix : Design) (cell n : ℕ) → IsDesign matrix → cell <
     matrix.rows < n → has_cell matrix cell n ≡ false
 no_row_has matrix cell zero sound within past = absurd (omega arith)
 no_row_has matrix cell (suc i) sound within past =
-    let column = All-from_recursion (IsColumn matrix.rows) matrix.columns sound.each cell [] within in
+    let column = All-from_recursion (IsColumn matrix.rows) matrix.columns sound.each cell []
+    within in
     let none = get_or_past (column_at matrix cell) i 0 (let high = column.high in omega arith) in
     ap (λ entry. entry == 1) (row_entry matrix i cell within ∙ none)

@@ -1,12 +1,13 @@
 -- The scale and the base measure of a design matrix: how the counts of a table are sampled.
 use Rattle.std.specs.List.{count_by, find, list_all, position, position_or_len, range_with_len}
 use Rattle.std.specs.Option.{option_or}
-use Rattle.std.specs.Prelude.{All, Bool, Err, List, None, Ok, Option, Result, Some, [], length, map, nat_le, not, option_map, sum, zero, suc, ℕ, ◌&&◌, ◌==◌, ◌≡◌, ◌≤◌}
+use Rattle.std.specs.Prelude.{All, Bool, List, None, Ok, Option, Result, Some, [], length, map, nat_le, not, option_map, sum, zero, suc, ℕ, ◌&&◌, ◌==◌, ◌≡◌, ◌≤◌}
 use Rattle.mb_matrix.specs.Matrix.{Design, column_at, row_of}
 use Rattle.mb_matrix.specs.declared.measure_fault.MeasureFault.{MeasureFault}
 use Rattle.mb_matrix.specs.declared.measure_fault.MeasureFault.TheVariants.{BadBase, BadScaleRow, OutOfMemory, ScaleNotCover}
 use Rattle.mb_tables.specs.Limits.{most_cells}
 use Rattle.mb_tables.specs.Vectors.{at}
+use Rattle.mb_matrix.specs.Faults.{unless_fault}
 
 -- the sampling scheme, by the margins that it fixes: the total alone (one multinomial sample), or
 -- the margins of these rows (a sample in each row's cells, product multinomial); rows count from 1
@@ -85,11 +86,6 @@ pub record AreWeights (groups bases : List ℕ) : Type 0 where
   pub few : length bases ≤ most_cells
   pub each_group : length groups ≡ length bases
   pub positive : All (λ number. 1 ≤ number) bases
-
--- the value, unless there is a fault
-abbrev pub unless_fault : {X : Type 0} → Option MeasureFault → X → Result X MeasureFault
-unless_fault None x = Ok x
-unless_fault (Some fault) x = Err fault
 
 -- the first fault of a scale and a base
 abbrev pub measure_fault : Design → Scheme → List ℕ → Option MeasureFault

@@ -21,7 +21,7 @@ mod scale_tests;
 mod test;
 
 pub use digit::Digit;
-pub use entries::LARGEST_ENTRY;
+pub use entries::{LARGEST_ENTRY, are_design_entries};
 pub use fault::MatrixFault;
 pub use key_laws::{
     free_cells_determine, keys_are_bounded, keys_are_distinct, peel_is_triangular, ranks_ascend,

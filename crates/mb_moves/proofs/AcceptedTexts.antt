@@ -1,6 +1,6 @@
 -- Which tokens are accepted.
 use Rattle.std.proofs.Common.{Err, List, None, Ok, Option, Result, Some, [], ap, arith, cond, eqb, false, leb, length, ltb, map, negsuc, pos, refl, subst, sym, true, Bool, ℕ, ℤ, ◌*◌, ◌+◌, ◌<◌, ◌^◌, ◌≡◌, ◌≤◌, ◌∙◌, ◌∷◌, ◌&&◌}
-use Rattle.std.proofs.lemmas.Bool.{eq-eqb, eqb-true, le-leb, leb-true, lt-ltb, ltb-true, ne_eqb}
+use Rattle.std.proofs.lemmas.Bool.{and_from, and_parts, eq-eqb, eqb-true, le-leb, leb-true, lt-ltb, ltb-true, ne_eqb}
 use Rattle.std.proofs.lemmas.Int.{ints}
 use Rattle.std.proofs.lemmas.List.Elements.{All-from_recursion, recursion_from_All}
 use Rattle.std.specs.Int.RustNames.{unsigned_abs}
@@ -113,15 +113,6 @@ entries_given wanted found (token ∷ others) (z ∷ zs) e n h =
     (entry_given (found + 3) (number_of token) z head h.0)
     ∙ ap (λ (r : Result (List ℤ) GridFault). r >>= λ entries. Ok (z ∷ entries)) rest
 
--- the two parts of a test
-and_parts : (a b : Bool) → (a && b) ≡ true → (a ≡ true) × (b ≡ true)
-and_parts true b e = (refl, e)
-and_parts false b e = absurd cc
-
--- and the test from its parts
-both_true : (a b : Bool) → a ≡ true → b ≡ true → (a && b) ≡ true
-both_true a b e f = ap (λ x. x && b) e ∙ f
-
 -- a number that is a size
 pub size_taken : (lowest highest : ℕ) (number : Option ℤ) (n : ℕ) →
     size_within lowest highest number ≡ Ok n →
@@ -142,7 +133,7 @@ pub size_given : (lowest highest : ℕ) (number : Option ℤ) (n : ℕ) →
 size_given lowest highest number n e low high =
     ap (size_within lowest highest) e
     ∙ ap (λ b. cond b (Ok n) (Err NoSize))
-    (both_true (leb lowest n) (leb n highest) (le-leb lowest n low) (le-leb n highest high))
+    (and_from (leb lowest n) (leb n highest) (le-leb lowest n low) (le-leb n highest high))
 
 -- the array of two sizes and entries, and what its tokens say
 array_made : (lowest highest : ℕ) (first second : List ℕ) (others : List (List ℕ))

@@ -11,4 +11,5 @@ pub mod Verdicts
 pub mod RowSteps
 pub mod TestedTexts
 pub mod WrittenLines
+pub mod RowLines
 pub mod RefusedTexts

@@ -1,13 +1,14 @@
 -- The test of a move, and the first row that is none.
 use Rattle.std.proofs.Common.{All, Bool, List, None, Some, [], arith, cond, false, get_or, length, pos, refl, suc, take, true, zero, ℕ, ℤ, ◌+◌, ◌<◌, ◌∙◌, ◌∷◌, ◌≡◌}
+use Rattle.std.proofs.lemmas.Bool.{false_from_ne_true}
 use Rattle.std.proofs.lemmas.Bool.Decides.{Decides-int_eq}
 use Rattle.std.proofs.lemmas.List.Elements.{All-from_recursion}
 use Rattle.std.proofs.lemmas.List.Sums.{AllPass-from_list_all, list_all-from_AllPass}
-use Rattle.std.specs.Ordering.{int_eq}
 use Rattle.std.specs.List.{AllByRecursion}
-use Rattle.mb_tables.specs.Rows.{IsMoveOf}
+use Rattle.std.specs.Ordering.{int_eq}
 use Rattle.mb_moves.specs.Testing.{first_wrong, is_move}
 use Rattle.mb_tables.specs.Margin.{move_margin}
+use Rattle.mb_tables.specs.Rows.{IsMoveOf}
 
 module _ (matrix : List (List ℤ)) (move : List ℤ) where
   -- the test of one margin
@@ -26,15 +27,11 @@ module _ (matrix : List (List ℤ)) (move : List ℤ) where
       list_all-from_AllPass is_kept matrix
       (λ k d l. (Decides-int_eq (move_margin (get_or matrix k d) move) (pos 0)).1 (h k d l))
 
--- a test that isn't true is false
-not_true : (test : Bool) → (test ≡ true → ⊥) → test ≡ false
-not_true true h = absurd (h refl)
-not_true false h = refl
-
 -- a row with a margin that isn't 0 fails it
 pub is_move-no : (matrix : List (List ℤ)) (move : List ℤ) → (IsMoveOf matrix move → ⊥) →
     is_move matrix move ≡ false
-is_move-no matrix move h = not_true (is_move matrix move) (λ e. h (is_move-sound matrix move e))
+is_move-no matrix move h = false_from_ne_true (is_move matrix move)
+    (λ e. h (is_move-sound matrix move e))
 
 -- where the test finds no row, each row has margins 0
 found_none : (matrix : List (List ℤ)) (row : ℕ) (rows : List (List ℤ)) →

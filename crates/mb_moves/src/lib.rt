@@ -2,6 +2,7 @@
 //! written.
 #![tactic(auto)]
 
+mod design;
 mod entries;
 mod fault;
 mod grid;
@@ -13,6 +14,7 @@ mod table_text;
 mod testing;
 mod writing;
 
+pub use design::{push_rows, write_design};
 pub use fault::GridFault;
 pub use grid::Grid;
 pub use kernel::first_not_move;

@@ -1,11 +1,15 @@
 -- Laws of the pairs of rules: which are listed, and where.
-use Rattle.std.proofs.Common.{Bool, List, Some, [], ap, arith, inl, inr, length, length-append, map, slice_get, subst, suc, sym, zero, ℕ, ◌++◌, ◌+◌, ◌<◌, ◌∙◌, ◌∷◌, ◌≡◌, ◌⊎◌}
+use Rattle.std.proofs.Common.{Bool, List, Some, [], ap, arith, inl, inr, length, length-append, map, refl, slice_get, subst, suc, sym, zero, ℕ, ◌++◌, ◌+◌, ◌<◌, ◌∙◌, ◌∷◌, ◌≡◌, ◌⊎◌}
 use Rattle.std.specs.List.{filter, range_with_len}
-use Rattle.mb_order.specs.Peak.{left_in, left_of, pairs_below, shared_pairs}
+use Rattle.mb_matrix.specs.Matrix.{Design}
+use Rattle.mb_order.specs.Monomial.{Exponents}
+use Rattle.mb_order.specs.Peak.{left_in, left_of, pairs_below, right_in, shared_pairs, sides_of}
 use Rattle.mb_order.specs.Rewriting.{Rule}
+use Rattle.mb_order.specs.Weight.{Suits}
 use Rattle.mb_tables.proofs.ListLaws.{In-cases, In-filter_only, In-left, In-map, In-map_range, In-range, In-right, filter-append, filter-same, get-front, place-in, range-only}
+use Rattle.mb_tables.proofs.VectorLaws.{length-greater}
 use Rattle.mb_tables.specs.Lists.{In}
-use Rattle.mb_tables.specs.Vectors.{shares}
+use Rattle.mb_tables.specs.Vectors.{greater, shares}
 
 -- each pair of numbers i below j below n is listed
 pub In-pairs : (n i j : ℕ) → i < j → j < n → In {X = ℕ × ℕ} (i, j) (pairs_below n)
@@ -27,6 +31,18 @@ In-pairs (suc n) i j h l =
 pub left-is : (rules : List Rule) (k : ℕ) (rule : Rule) → slice_get rules k ≡ Some rule →
     left_of rules k ≡ rule.0
 left-is rules k rule e = ap left_in e
+
+-- the sides by its number
+pub sides-are : (rules : List Rule) (k : ℕ) (rule : Rule) → slice_get rules k ≡ Some rule →
+    sides_of rules k ≡ rule
+sides-are rules k rule e = ap (λ o. (left_in o, right_in o)) e
+
+-- so they are those of a rule that is there
+pub sides-get : (rules : List Rule) (k : ℕ) → k < length rules →
+    slice_get rules k ≡ Some (sides_of rules k)
+sides-get [] k l = absurd (omega arith)
+sides-get (x ∷ rules) zero l = refl
+sides-get (x ∷ rules) (suc k) l = sides-get rules k (omega arith)
 
 -- a listed pair is one of numbers i below j below n
 pub pairs-only : (n : ℕ) (p : ℕ × ℕ) → In p (pairs_below n) → (p.0 < p.1) × (p.1 < n)
@@ -83,3 +99,12 @@ shared_pairs-push rules rule =
           ap (λ x. shares x (left_of all p.1)) (left-front rules (rule ∷ []) p.0 (omega arith))
           ∙ ap (shares (left_of rules p.0)) (left-front rules (rule ∷ []) p.1 b))),
     )
+
+-- the least common multiple of two monomials of the matrix is one
+pub peak-suits : (matrix : Design) (x y m : Exponents) → Suits matrix x → Suits matrix y →
+    m.margins ≡ x.margins → m.list ≡ greater x.list y.list → Suits matrix m
+peak-suits matrix x y m s t e f = record {
+  margins = e ∙ s.margins;
+  symbols = ap length f ∙ length-greater x.list y.list
+      ∙ (let a = s.symbols in let b = t.symbols in omega arith);
+}

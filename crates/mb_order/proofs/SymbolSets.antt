@@ -1,5 +1,5 @@
 -- What the sets of the symbols that occur tell of two monomials.
-use Rattle.std.proofs.Common.{Bool, List, [], ap, arith, bit_and, bit_or, false, inl, inr, length, min, not, refl, suc, sym, true, zero, ℕ, ◌%◌, ◌*◌, ◌+◌, ◌-◌, ◌<◌, ◌==◌, ◌^◌, ◌∙◌, ◌∷◌, ◌≡◌, ◌≤◌, ◌⊎◌}
+use Rattle.std.proofs.Common.{Bool, List, [], ap, arith, bit_and, bit_or, false, inl, inr, length, min, not, suc, sym, true, zero, ℕ, ◌%◌, ◌*◌, ◌+◌, ◌-◌, ◌<◌, ◌==◌, ◌^◌, ◌∙◌, ◌∷◌, ◌≡◌, ◌≤◌, ◌⊎◌}
 use Rattle.std.proofs.lemmas.List.{get_or_past}
 use Rattle.std.proofs.lemmas.Nat.Bits.{bit_at-zero, bit_at_and, bit_at_not, bit_at_ones, bit_at_ones_above, bit_at_set_other, bit_at_set_same, same_from_bits}
 use Rattle.std.proofs.lemmas.Nat.{one_shl}
@@ -9,16 +9,7 @@ use Rattle.mb_order.specs.MarginFree.{margin_free}
 use Rattle.mb_order.specs.Symbols.{IsSetOf}
 use Rattle.mb_tables.proofs.VectorLaws.{shares-no, within-at}
 use Rattle.mb_tables.specs.Vectors.{at, shares, within}
-
--- what is not true is false
-pub not_true : (t : Bool) → (t ≡ true → ⊥) → t ≡ false
-not_true true h = absurd (h refl)
-not_true false h = refl
-
--- what is not false is true
-pub not_false : (t : Bool) → (t ≡ false → ⊥) → t ≡ true
-not_false true h = refl
-not_false false h = absurd (h refl)
+use Rattle.std.proofs.lemmas.Bool.{false_from_ne_true, true_from_ne_false}
 
 -- monomials that share a symbol do so at some place
 pub shares-place : (u v : List ℕ) → shares u v ≡ true → (k : ℕ) × (0 < at u k) × (0 < at v k)
@@ -32,7 +23,7 @@ shares-place (suc x ∷ u) (suc y ∷ v) e = (0, omega arith, omega arith)
 module _ (s t : ℕ) (u v : List ℕ) (left : IsSetOf s u) (right : IsSetOf t v) where
   -- sets with nothing in common: no symbol is shared
   pub apart : bit_and s t ≡ 0 → shares u v ≡ false
-  apart e = not_true (shares u v) (λ f.
+  apart e = false_from_ne_true (shares u v) (λ f.
       let r = shares-place u v f in
       let a = left r.0 in
       let b = right r.0 in
@@ -44,7 +35,7 @@ module _ (s t : ℕ) (u v : List ℕ) (left : IsSetOf s u) (right : IsSetOf t v)
 
   -- sets with something in common: a symbol is shared
   pub overlap : (bit_and s t ≡ 0 → ⊥) → shares u v ≡ true
-  overlap h = not_false (shares u v) (λ e. h (same_from_bits (bit_and s t) 0 (λ i.
+  overlap h = true_from_ne_false (shares u v) (λ e. h (same_from_bits (bit_and s t) 0 (λ i.
       let a = left i in
       let b = right i in
       let c = bit_at_and s t i in
@@ -55,7 +46,7 @@ module _ (s t : ℕ) (u v : List ℕ) (left : IsSetOf s u) (right : IsSetOf t v)
   pub no_divisor : length u ≤ 128 → t < 2 ^ 128 → (bit_and s (bit_not w128 t) ≡ 0 → ⊥) →
       within u v ≡ false
   no_divisor few small h =
-      not_true (within u v) (λ e. h (same_from_bits (bit_and s (bit_not w128 t)) 0 (λ i.
+      false_from_ne_true (within u v) (λ e. h (same_from_bits (bit_and s (bit_not w128 t)) 0 (λ i.
       let a = left i in
       let b = right i in
       let c = bit_at_and s (bit_not w128 t) i in
@@ -80,7 +71,7 @@ module _ (s d : ℕ) (u : List ℕ) (set : IsSetOf s u) where
   -- some bit of a margin is set: it is not margin-free
   pub not_free-by_set : (bit_and s (2 ^ d - 1) ≡ 0 → ⊥) → margin_free d u ≡ false
   not_free-by_set h =
-      not_true (margin_free d u) (λ e. h (same_from_bits (bit_and s (2 ^ d - 1)) 0 (λ k.
+      false_from_ne_true (margin_free d u) (λ e. h (same_from_bits (bit_and s (2 ^ d - 1)) 0 (λ k.
       let a = set k in
       let b = bit_at_and s (2 ^ d - 1) k in
       let z = bit_at-zero k in

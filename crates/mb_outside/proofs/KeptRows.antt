@@ -3,8 +3,8 @@ use Rattle.std.proofs.Common.{Bool, Equal, Less, List, None, Option, Ordering, S
 use Rattle.std.proofs.lemmas.Cmp.{eq_by_cmp_equiv, nat_cmp_total, nat_list_cmp_total, on_total, then_total}
 use Rattle.std.proofs.lemmas.Map.Keys.{sorted_head, sorted_tail}
 use Rattle.std.proofs.lemmas.Map.Lookups.{exact_bytes, exact_pairs, exact_unsigned}
-use Rattle.std.specs.BTreeMap.{BTreeMap, UpdatesBy, is_at}
 use Rattle.std.specs.BTreeMap as tree
+use Rattle.std.specs.BTreeMap.{BTreeMap, UpdatesBy, is_at}
 use Rattle.std.specs.Cmp.{Equal-is, IsTotalOrder}
 use Rattle.std.specs.Cmp.Lexicographic.{slice_cmp}
 use Rattle.std.specs.FinMap.{empty, entries, entries-insert, find, from_entries, get, get-from_entries, get-insert, get-remove, insert, len-empty, len-entries, put, remove, same_map}
@@ -38,7 +38,8 @@ row_cmp a b = key_cmp (key_of a) (key_of b)
 -- keys are in a total order
 pub keys_total : IsTotalOrder key_cmp
 keys_total =
-    then_total (on_total (λ (k : Key). k.0) nat_cmp_total) (on_total (λ (k : Key). k.1) nat_list_cmp_total)
+    then_total (on_total (λ (k : Key). k.0) nat_cmp_total)
+    (on_total (λ (k : Key). k.1) nat_list_cmp_total)
 
 -- keys that compare alike are one
 pub exact_keys : (a b : Key) → key_cmp a b ≡ Equal → a ≡ b
@@ -88,7 +89,8 @@ get-updated old new key body updates q = by (eq_by_cmp key_cmp q (key_of key)) r
         get (tree_rows new) q ≡ cond b (option_map items body) (get (tree_rows old) q)
     by true e =
         let same : q ≡ key_of key = exact_keys q (key_of key) (equal (key_cmp q (key_of key)) e) in
-        ap (get (tree_rows new)) same ∙ get-tree_rows new (key_of key) ∙ ap (option_map items) updates.1
+        ap (get (tree_rows new)) same ∙ get-tree_rows new (key_of key)
+        ∙ ap (option_map items) updates.1
     by false e =
         get-tree_rows new q
         ∙ ap (option_map items)
@@ -128,7 +130,8 @@ no_length (x ∷ xs) e = absurd (omega arith)
 entries-from_entries : (es : List (Key × List ℕ)) →
     IsStrictlySortedBy key_cmp (map (λ (e : Key × List ℕ). e.0) es) →
     entries (from_entries {R = key_cmp} es) ≡ es
-entries-from_entries [] sorted = no_length (entries empty) (sym (len-entries empty) ∙ len-empty key_cmp (List ℕ))
+entries-from_entries [] sorted = no_length (entries empty)
+    (sym (len-entries empty) ∙ len-empty key_cmp (List ℕ))
 entries-from_entries (e ∷ es) sorted =
     let keys = map (λ (e : Key × List ℕ). e.0) es in
     let rest = entries-from_entries es (sorted_tail key_cmp e.0 keys sorted) in
@@ -139,7 +142,8 @@ entries-from_entries (e ∷ es) sorted =
         AllByRecursion (λ y. key_cmp e.0 y ≡ Less) (map (λ (e : Key × List ℕ). e.0) es) →
         put key_cmp e.0 e.1 es ≡ e ∷ es
     front e [] all = refl
-    front e (f ∷ es) all = ap (λ o. by_order o (e ∷ f ∷ es) ((f.0, e.1) ∷ es) (f ∷ put key_cmp e.0 e.1 es)) all.0
+    front e (f ∷ es) all = ap (λ o. by_order o (e ∷ f ∷ es) ((f.0, e.1) ∷ es)
+        (f ∷ put key_cmp e.0 e.1 es)) all.0
 
 -- the keys of the tree are those of the rows, in order
 keys-tree_row : (es : List (RowKey × Vec ℕ Global)) →

@@ -1,4 +1,5 @@
--- A search from ring to ring, by the tables that it has met and those of the last ring, in any order.
+-- A search from ring to ring, by the tables that it has met and those of the last ring, in any
+-- order.
 use Rattle.std.proofs.Common.{List, [], arith, inl, inr, length, subst, suc, sym, ℕ, ℤ, ◌++◌, ◌<◌, ◌∷◌, ◌≡◌, ◌≤◌}
 use Rattle.mb_rings.proofs.DistinctTables.{In-permutation, distinct-apart, distinct-append, distinct-permutation, length-le_distinct, permutation-In}
 use Rattle.mb_rings.proofs.RingEnds.{reached-distinct, reached-joined}

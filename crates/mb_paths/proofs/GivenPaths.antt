@@ -1,60 +1,35 @@
 -- Moves beside a valid certificate: the tables of its rules, and what new paths make of it.
-use Rattle.std.proofs.Common.{All, Bool, List, Some, [], ap, append-nil, arith, cond, drop, false, get_or, length, length-drop, map, negsuc, pos, refl, slice_get, subst, suc, sym, true, zero, ℕ, ℤ, ◌++◌, ◌+◌, ◌<◌, ◌∙◌, ◌∷◌, ◌≡◌, ◌≤◌, ◌^◌}
+use Rattle.std.proofs.Common.{All, Bool, List, Some, [], ap, append-nil, arith, cond, drop, false, get_or, length, length-drop, map, negsuc, pos, slice_get, subst, suc, sym, true, zero, ℕ, ℤ, ◌++◌, ◌+◌, ◌<◌, ◌∙◌, ◌∷◌, ◌≡◌, ◌≤◌, ◌^◌}
+use Rattle.std.proofs.lemmas.Bool.{and_parts}
 use Rattle.std.proofs.lemmas.List.{length-map, map-append}
 use Rattle.std.proofs.lemmas.List.Elements.{All-cons, All-drop, All-nil, All-push}
 use Rattle.std.proofs.lemmas.Option.{slice_get-map, slice_get_read}
 use Rattle.std.specs.List.{filter, range_with_len}
 use Rattle.std.specs.Option.{option_map}
 use Rattle.mb_certificate.proofs.LineFaults.{all-at, at-all}
-use Rattle.mb_certificate.proofs.Reasons.{both-true}
 use Rattle.mb_certificate.specs.Certificate.{AreParts, AreSides, Certificate, IsSigned, Path}
 use Rattle.mb_certificate.specs.Sides.{PairSuits, sides}
 use Rattle.mb_certificate.specs.Valid.{IsValid, MovesBy, Walks, free_rules, is_free}
 use Rattle.mb_certificate.specs.declared.parts.Pair.{Pair}
 use Rattle.mb_checker.proofs.TableCells.{margins-small}
 use Rattle.mb_checker.proofs.Turns.{range-more}
-use Rattle.mb_matrix.proofs.FillLaws.{length-margins}
-use Rattle.mb_matrix.specs.Fiber.{AreColumns, margins}
+use Rattle.mb_matrix.specs.Fiber.{margins}
 use Rattle.mb_matrix.specs.Matrix.{Design, margins_of}
+use Rattle.mb_order.proofs.MarginFreeLaws.{free-weight}
 use Rattle.mb_order.proofs.PeakLaws.{left-is}
-use Rattle.mb_order.proofs.WeightLaws.{symbols-length, weight}
+use Rattle.mb_order.proofs.WeightLaws.{symbols-length}
 use Rattle.mb_order.specs.Limits.{largest_exponent}
 use Rattle.mb_order.specs.MarginFree.{margin_free}
-use Rattle.mb_order.specs.Monomial.{Monomial}
 use Rattle.mb_order.specs.Peak.{left_in, left_of, right_in, right_of, sides_of}
-use Rattle.mb_order.specs.Weight.{symbols}
 use Rattle.mb_paths.specs.Beside.{AreLeastPaths, AreMovesOf, HasPathsBefore, IsPathOf, ShowsApart, left_table, right_table, with_moves}
 use Rattle.mb_paths.specs.declared.beside_fault.BesideFault.{BesideFault}
 use Rattle.mb_paths.specs.declared.beside_fault.BesideFault.TheVariants.{NotAMove, NotBasis, OutOfMemory, TooLarge, WidthDiffers}
 use Rattle.mb_paths.specs.loops.Pathless.{IsPathlessAt}
 use Rattle.mb_rings.proofs.Reaching.{reaches_joined}
 use Rattle.mb_tables.proofs.ListLaws.{In-filter, In-map_range, In-place, In-range, filter-append, place-within, some_at}
-use Rattle.mb_tables.proofs.VectorLaws.{length-zeros, plus-zeros}
 use Rattle.mb_tables.specs.Limits.{most_moves}
 use Rattle.mb_tables.specs.Lists.{In}
 use Rattle.mb_tables.specs.Rows.{Rows}
-use Rattle.mb_tables.specs.Vectors.{all_zero, zeros}
-
--- a margin-free monomial is that of its cells' exponents
-free-whole : (d : ℕ) (m : Monomial) → margin_free d m ≡ true → d ≤ length m →
-    zeros d ++ drop d m ≡ m
-unfolding zeros all_zero
-free-whole zero m e h = refl
-free-whole (suc d) [] e h = absurd (omega arith)
-free-whole (suc d) (zero ∷ m) e h = ap (λ l. 0 ∷ l) (free-whole d m e (omega arith))
-free-whole (suc d) (suc x ∷ m) e h = cc
-
--- so its weight is the margins of these
-free-weight : (d : ℕ) (columns : List (List ℕ)) (m : Monomial) → AreColumns d columns →
-    length m ≡ length (symbols d columns) → margin_free d m ≡ true →
-    margins d (symbols d columns) m ≡ margins d columns (drop d m)
-free-weight d columns m fit w e =
-    let wide = symbols-length d columns in
-    let cells = margins d columns (drop d m) in
-    let high : d ≤ length cells =
-    let l = length-margins d columns (drop d m) fit in omega arith in
-    ap (margins d (symbols d columns)) (sym (free-whole d m e (omega arith)))
-    ∙ weight d columns (zeros d) (drop d m) fit (length-zeros d) ∙ plus-zeros d cells high
 
 module _ (c : Certificate) (parts : AreParts c) (valid : IsValid c) (k : ℕ)
     (within : k < length c.rules) where
@@ -86,7 +61,7 @@ module _ (c : Certificate) (parts : AreParts c) (valid : IsValid c) (k : ℕ)
       let d = c.matrix.rows in
       let columns = c.matrix.columns in
       let v = valid.rules k (sides_of c.rules k) rule-there in
-      let both = both-true (margin_free d (left_of c.rules k)) (margin_free d (right_of c.rules k))
+      let both = and_parts (margin_free d (left_of c.rules k)) (margin_free d (right_of c.rules k))
       free in
       sym (free-weight d columns (left_of c.rules k) parts.design.each v.left_wide both.0)
       ∙ v.equal_weight
@@ -173,11 +148,13 @@ module _ (limit : ℕ) (c : Certificate) (moves : List (List ℤ)) (k : ℕ) whe
     within = within;
     free = free;
     before = λ j l f.
-        let listed = In-filter test j (range_with_len 0 k) (In-range 0 k j (omega arith) (omega arith))
+        let listed = In-filter test j (range_with_len 0 k)
+        (In-range 0 k j (omega arith) (omega arith))
         f in
         let found = In-map_range (λ (x : Path). x.rule) j paths (subst (In j) (sym h.all) listed) in
         let place = In-place paths found.0 found.1 in
-        let path = all-at (λ (x : Path). IsPathOf limit c moves x.rule x.steps) paths place.0 found.0
+        let path = all-at (λ (x : Path). IsPathOf limit c moves x.rule x.steps)
+        paths place.0 found.0
         h.each place.1 in
         ((found.0).steps, subst (λ n. IsPathOf limit c moves n (found.0).steps) (sym found.2) path);
   }

@@ -1,10 +1,10 @@
 -- The search between two tables on its way, and what its ends say.
-use Rattle.std.proofs.Common.{Err, IsErrAnd, List, Ok, Result, Some, [], ap, arith, drop, inl, inr, length, min, negsuc, pos, slice_get, subst, suc, sym, ℕ, ℤ, ◌++◌, ◌+◌, ◌-◌, ◌<◌, ◌∙◌, ◌∷◌, ◌≡◌, ◌≤◌, ◌⊎◌, length-append, length-drop, refl}
+use Rattle.std.proofs.Common.{Err, IsErrAnd, List, Ok, Result, Some, [], ap, arith, drop, inl, inr, length, min, slice_get, subst, suc, sym, ℕ, ℤ, ◌++◌, ◌+◌, ◌-◌, ◌<◌, ◌∙◌, ◌∷◌, ◌≡◌, ◌≤◌, ◌⊎◌, length-append, length-drop, refl}
 use Rattle.std.proofs.lemmas.List.{drop_all}
 use Rattle.std.proofs.lemmas.List.Sorted.{IsPermutation-append_left, IsPermutation-sym, IsPermutation-trans, length_permutation}
 use Rattle.std.specs.List.Sorted.{IsPermutation}
-use Rattle.mb_certificate.specs.Valid.{MovesBy, Walks}
-use Rattle.mb_checker.proofs.ValidCertificates.{moved-apart}
+use Rattle.mb_certificate.proofs.Walking.{chain-walk, moved-apart}
+use Rattle.mb_certificate.specs.Valid.{Walks}
 use Rattle.mb_matrix.specs.Matrix.{Design, fiber_of}
 use Rattle.mb_paths.proofs.Explored.{IsExplored, explored-all, explored-fiber, explored-few, explored-over, explored-reached, explored-start, explored-step}
 use Rattle.mb_paths.proofs.TreePaths.{tree-born}
@@ -21,9 +21,8 @@ use Rattle.mb_rings.specs.declared.fault.WalkFault.{WalkFault}
 use Rattle.mb_rings.specs.declared.fault.WalkFault.TheVariants.{OutOfMemory, TooLarge}
 use Rattle.mb_rings.specs.loops.Found.{FindsMore, IsSearchFault}
 use Rattle.mb_tables.proofs.ListLaws.{get-more, place-in}
-use Rattle.mb_tables.specs.Chain.{Chain}
 use Rattle.mb_tables.specs.Lists.{In}
-use Rattle.mb_tables.specs.Step.{IsNear, OneApart}
+use Rattle.mb_tables.specs.Step.{IsNear}
 
 -- the search on its way: a tree, whose tables are those of some rings from 0 on, and from a place
 -- on those of the last of these
@@ -37,23 +36,6 @@ pub record IsGrown
   pub root : slice_get tables 0 ≡ Some start
   pub room : length visited ≤ limit
   pub within : first ≤ length tables
-
--- a step is by a signed number
-apart-moved : (moves : List (List ℤ)) (u v : List ℕ) → OneApart moves u v →
-    (step : ℤ) × MovesBy moves step u v
-apart-moved moves u v (k, move, there, inl a) = (pos (suc k), (move, there, a))
-apart-moved moves u v (k, move, there, inr a) = (negsuc k, (move, there, a))
-
--- a chain is a walk of as many signed numbers
-chain-walk : (moves : List (List ℤ)) (u : List ℕ) (tables : List (List ℕ)) (v : List ℕ) →
-    Chain moves u tables v →
-    (steps : List ℤ) × (length steps ≡ length tables) × Walks moves steps u v
-unfolding Chain Walks
-chain-walk moves u [] v h = ([], refl, h)
-chain-walk moves u (next ∷ tables) v h =
-    let one = apart-moved moves u next h.0 in
-    let rest = chain-walk moves next tables v h.1 in
-    (one.0 ∷ rest.0, ap suc rest.1, (next, one.1, rest.2))
 
 -- what stands past a front
 drop-front : {X : Type 0} (xs ys : List X) → drop (length xs) (xs ++ ys) ≡ ys

@@ -32,7 +32,8 @@ tree-one moves start =
       listed = refl;
       count = refl;
       begins = inl refl;
-      walks = λ y i. subst (λ (z : Node). Walks moves z.path start z.table) (sym (one-is x y i)) refl;
+      walks = λ y i. subst (λ (z : Node). Walks moves z.path start z.table)
+          (sym (one-is x y i)) refl;
       in_order = ((λ y i. absurd i), tt);
       covered = λ y i. absurd i;
       ahead = λ y z i j step.

@@ -167,7 +167,8 @@ module _ (moves : List (List ℤ)) (tables : List (List ℕ)) (parents : List �
               let r = In-map_range (child x) z a.marks l in
               subst (λ (w : Node). IsBefore w.path (y.path ++ step ∷ [])) (sym r.2)
               (before-push x.path y.path (r.0).step step
-              ((subst (EachLater (λ (v w : Node). IsBefore v.path w.path)) next.2 t.in_order).0 y k))
+              ((subst (EachLater (λ (v w : Node). IsBefore v.path w.path)) next.2
+              t.in_order).0 y k))
         ]
         | inr k ↦
             let q = In-map_range (child x) y a.marks k in

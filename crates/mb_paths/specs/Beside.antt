@@ -77,7 +77,8 @@ BesideAnswers limit c moves (Err (TooLarge k seen)) =
     × PassesLimit limit c.matrix moves.rows (left_table c k) (right_table c k)
 BesideAnswers limit c moves (Err OutOfMemory) = Unit {0}
 
--- tables that show the moves to be no Markov basis: they have equal margins, and no chain joins them
+-- tables that show the moves to be no Markov basis: they have equal margins, and no chain joins
+-- them
 abbrev pub ShowsApart : Design → List (List ℤ) → BesideFault → Type 0
 ShowsApart matrix moves (NotBasis k left right) =
     (margins_of matrix left ≡ margins_of matrix right) × (Joined moves left right → ⊥)

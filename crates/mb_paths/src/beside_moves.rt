@@ -60,16 +60,17 @@ fn with_moves(
     ))
 }
 
-/// Whether moves are a Markov basis, beside a valid certificate that others are: a valid certificate
-/// with the same matrix, order, rules, starts and joins, with these moves, and for each margin-free
-/// rule the path that `between` gives from the table of its left side to that of its right side.
+/// Whether moves are a Markov basis, beside a valid certificate that others are: a valid
+/// certificate with the same matrix, order, rules, starts and joins, with these moves, and for each
+/// margin-free rule the path that `between` gives from the table of its left side to that of its
+/// right side.
 ///
 /// The limit is 1 to 100,000 tables a rule.
 ///
 /// Refused are other widths, then the first move whose margins aren't all 0, then the first
 /// margin-free rule that has no path within the limit: `NotBasis` with the tables of its two sides,
-/// which have equal margins and which no chain of the moves joins, or `TooLarge`. Want of memory can
-/// come in place of any answer.
+/// which have equal margins and which no chain of the moves joins, or `TooLarge`. Want of memory
+/// can come in place of any answer.
 pub fn beside(
     alloc: Global,
     certificate: &Certificate,

@@ -17,8 +17,8 @@ use mb_rings::WalkFault;
 use mb_tables::Moves;
 use std::alloc::Global;
 
-/// The path that moves have for a margin-free rule: the least one from the table of its left side to
-/// that of its right side.
+/// The path that moves have for a margin-free rule: the least one from the table of its left side
+/// to that of its right side.
 fn path_of(
     alloc: Global,
     certificate: &Certificate,

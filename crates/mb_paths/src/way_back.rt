@@ -12,8 +12,8 @@ use crate::tree::Tree;
 use mb_tables::{Move, Moves, OutOfMemory, Sign, Table};
 use std::alloc::Global;
 
-/// Whether the move, added or subtracted, makes one table of the other. The first is moved and moved
-/// back.
+/// Whether the move, added or subtracted, makes one table of the other. The first is moved and
+/// moved back.
 fn makes(from: &mut Table, z: &Move, sign: Sign, to: &Table) -> bool
     requires { length from.old ≡ length z.now }
     ensures yes { OnTrue result (Moved sign from.old z.now to.now) }

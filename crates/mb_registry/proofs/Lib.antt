@@ -8,4 +8,3 @@ pub mod ReadDatasets
 pub mod RecordTexts
 pub mod Repeats
 pub mod RowKeys
-pub mod WentOn

@@ -10,7 +10,6 @@ use Rattle.mb_outside.specs.Rows.{Key, Rows, key_cmp, names_among}
 use Rattle.mb_registry.proofs.OrderlyRows.{kept_there, kind_by_number, listed_known}
 use Rattle.mb_registry.proofs.RecordTexts.{record_back, record_written}
 use Rattle.mb_registry.proofs.RowKeys.{same_is, same_key, still_there, there_key}
-use Rattle.mb_registry.proofs.WentOn.{went_on}
 use Rattle.mb_registry.specs.Adding.{beside_kept, refers, rows_added}
 use Rattle.mb_registry.specs.Bodies.{HasFewTables, IsRecord, body_of, record_of}
 use Rattle.mb_registry.specs.Faults.{Answer}
@@ -25,6 +24,7 @@ use Rattle.mb_registry.specs.declared.fault.RegistryFault.TheVariants.{InUse}
 use Rattle.mb_registry.specs.declared.kinds.Kind.{Kind}
 use Rattle.mb_registry.specs.declared.kinds.Kind.TheVariants.{Basis, Dataset, Model}
 use Rattle.mb_tables.specs.Answers.{◌>>=◌}
+use Rattle.mb_text.proofs.RecordSteps.{stepped}
 use Rattle.mb_text.specs.Name.{IsName}
 
 -- no rows are orderly
@@ -38,7 +38,7 @@ pub refers_there : (reference : Option (Kind × List ℕ)) (rows : Rows) (done :
     refers reference rows ≡ Ok done → IsThere reference rows
 refers_there None rows done e = tt
 refers_there (Some reference) rows done e =
-    let found = went_on (kept reference.0 reference.1 rows) (λ body. Ok tt) done e in
+    let found = stepped (kept reference.0 reference.1 rows) (λ body. Ok tt) done e in
     subst IsSome (sym (kept_there reference.0 reference.1 rows found.0 found.1)) refl
 
 -- and is still there after an insertion
@@ -98,7 +98,7 @@ added_orderly : (rows : Rows) (name : List ℕ) (entry : RecordValue) (added : A
 added_orderly rows name entry Unchanged orderly is sound few e = orderly
 added_orderly rows name entry Stored orderly is sound few e =
     let found =
-    went_on (refers (reference_of entry) rows)
+    stepped (refers (reference_of entry) rows)
     (λ there. beside_kept (body_of entry) (get rows (key_of (kind_of entry) name))) Stored e in
     inserted_orderly rows name entry orderly is sound few
     (refers_there (reference_of entry) rows found.0 found.1)
@@ -129,12 +129,12 @@ listed_goes name by (key ∷ ks) rows referring done any e =
     which true numbered true same any e later =
         let one : key_of by referring ≡ key = same_is (key_of by referring) key same in
         let first =
-        went_on (lets_go name by key.1 rows)
+        stepped (lets_go name by key.1 rows)
         (λ free. all_let_go name by (names_among (kind_number by) ks) rows) done e in
         (first.0, ap (λ (k : Key). lets_go name by k.1 rows) one ∙ first.1)
     which true numbered false same any e later =
         let first =
-        went_on (lets_go name by key.1 rows)
+        stepped (lets_go name by key.1 rows)
         (λ free. all_let_go name by (names_among (kind_number by) ks) rows) done e in
         later any first.2
     which false numbered true same any e later =
@@ -264,7 +264,7 @@ removed_orderly : (rows : Rows) (kind : Kind) (name : List ℕ) (done : Unit {0}
     AreOrderly (rows_removed kind name done rows)
 removed_orderly rows kind name done orderly e =
     let found =
-    went_on (kept kind name rows) (λ body. unused name (referring_kind kind) rows) done e in
+    stepped (kept kind name rows) (λ body. unused name (referring_kind kind) rows) done e in
     fewer_orderly rows kind name orderly found.2
 
 -- ---- steps
@@ -274,14 +274,14 @@ step_orderly : (step : Step) (rows later : Rows) → IsStep step → AreOrderly 
     after_step step rows ≡ Ok later → AreOrderly later
 step_orderly (Adds name entry) rows later is orderly e =
     let found =
-    went_on (record_added name entry rows)
+    stepped (record_added name entry rows)
     (λ added. Ok (rows_added (kind_of entry) name (body_of entry) added rows)) later e in
     let same : rows_added (kind_of entry) name (body_of entry) found.0 rows ≡ later = cc in
     subst AreOrderly same
     (added_orderly rows name entry found.0 orderly is.0 is.1.0 is.1.1 found.1)
 step_orderly (Removes kind name) rows later is orderly e =
     let found =
-    went_on (removed_of kind name rows) (λ done. Ok (rows_removed kind name done rows)) later e in
+    stepped (removed_of kind name rows) (λ done. Ok (rows_removed kind name done rows)) later e in
     let same : rows_removed kind name found.0 rows ≡ later = cc in
     subst AreOrderly same (removed_orderly rows kind name found.0 orderly found.1)
 
@@ -293,6 +293,6 @@ steps_orderly [] rows later are orderly e =
     let same : rows ≡ later = cc in subst AreOrderly same orderly
 steps_orderly (step ∷ steps) rows later are orderly e =
     let found =
-    went_on (after_step step rows) (λ later. after_steps steps later) later e in
+    stepped (after_step step rows) (λ later. after_steps steps later) later e in
     steps_orderly steps found.0 later (All-tail IsStep step steps are)
     (step_orderly step rows found.0 (All-head IsStep step steps are) orderly found.1) found.2

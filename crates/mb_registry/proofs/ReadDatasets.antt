@@ -24,7 +24,7 @@ use Rattle.mb_data.specs.declared.fault.DataFault.TheVariants.{Csv, NoCell, Repe
 use Rattle.mb_data.specs.loops.Gathers.{Gathers}
 use Rattle.mb_data.specs.loops.Headers.{IsHeader}
 use Rattle.mb_data.specs.loops.Keys.{key_of}
-use Rattle.mb_registry.proofs.WentOn.{went_on}
+use Rattle.mb_text.proofs.RecordSteps.{stepped}
 
 -- what is kept of rows that were read, whose counts add up to at most 1,000,000
 record Kept (factors : ℕ) (rows : List Row) : Type 0 where
@@ -115,9 +115,9 @@ rows_kept columns number rows all [] so_far e =
     let same : rows ≡ all = cc in subst (Kept (length columns.factors)) same so_far
 rows_kept columns number rows all (fields ∷ records) so_far e =
     let a =
-    went_on (next_rows columns number rows fields)
+    stepped (next_rows columns number rows fields)
     (λ more. rows_of columns (number + 1) more records) all e in
-    let b = went_on (row_of columns number fields) (λ row. with_row number rows row) a.0 a.1 in
+    let b = stepped (row_of columns number fields) (λ row. with_row number rows row) a.0 a.1 in
     rows_kept columns (number + 1) a.0 all records
     (kept_more (length columns.factors) number rows a.0 b.0 so_far
     (row_text columns number fields b.0 b.1) b.2)
@@ -189,9 +189,9 @@ dataset_sound text found e = from (records_of text) e
     from : (records : List (List (List ℕ))) → dataset_from records ≡ Ok found → IsCrossTable found
     from [] e = absurd (cc e)
     from (first ∷ records) e =
-        let a = went_on (header_of first) (λ columns. dataset_under columns records) found e in
+        let a = stepped (header_of first) (λ columns. dataset_under columns records) found e in
         let b =
-        went_on (rows_of a.0 2 [] records) (λ rows. with_cells (table_of a.0.factors rows)) found
+        stepped (rows_of a.0 2 [] records) (λ rows. with_cells (table_of a.0.factors rows)) found
         a.2 in
         table_sound a.0.factors b.0 found (header_again first a.0 a.1)
         (rows_kept a.0 2 [] b.0 records (kept_none (length a.0.factors)) b.1) b.2

@@ -6,7 +6,6 @@ use Rattle.std.specs.Prelude.{IsSome, if◌then◌else◌}
 use Rattle.mb_outside.specs.Rows.{Rows}
 use Rattle.mb_registry.proofs.OrderlySteps.{refers_there, there_after}
 use Rattle.mb_registry.proofs.RowKeys.{inserted}
-use Rattle.mb_registry.proofs.WentOn.{went_on}
 use Rattle.mb_registry.specs.Adding.{added_of, beside_kept, refers, rows_added}
 use Rattle.mb_registry.specs.Faults.{Answer}
 use Rattle.mb_registry.specs.Kinds.{key_of}
@@ -17,6 +16,7 @@ use Rattle.mb_registry.specs.declared.fault.RegistryFault.TheVariants.{Conflict,
 use Rattle.mb_registry.specs.declared.kinds.Kind.{Kind}
 use Rattle.mb_tables.specs.Answers.{◌>>=◌}
 use Rattle.mb_text.proofs.PieceCases.{same_text}
+use Rattle.mb_text.proofs.RecordSteps.{stepped}
 
 -- a reference that is there is found
 there_refers : (reference : Option (Kind × List ℕ)) (rows : Rows) → IsThere reference rows →
@@ -51,7 +51,7 @@ pub again_unchanged : (kind : Kind) (name : List ℕ) (reference : Option (Kind 
 again_unchanged kind name reference body rows Unchanged e = e
 again_unchanged kind name reference body rows Stored e =
     let found =
-    went_on (refers reference rows) (λ there. beside_kept body (get rows (key_of kind name)))
+    stepped (refers reference rows) (λ there. beside_kept body (get rows (key_of kind name)))
     Stored e in
     kept_unchanged kind name reference body (insert rows (key_of kind name) body)
     (there_after reference rows (key_of kind name) body

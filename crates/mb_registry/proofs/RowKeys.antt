@@ -8,6 +8,7 @@ use Rattle.std.specs.Ordering.{eq_by_cmp}
 use Rattle.std.specs.Prelude.{IsSome, is_some}
 use Rattle.mb_outside.proofs.KeptRows.{exact_keys, keys_total}
 use Rattle.mb_outside.specs.Rows.{Key, Rows, key_cmp}
+use Rattle.std.proofs.lemmas.Bool.{or_right}
 
 -- whether two keys are the same
 abbrev pub same_key : Key → Key → Bool
@@ -56,11 +57,6 @@ there_key rows q body e = sym (contains_key-keys rows q) ∙ there_is_some (get 
 any_first : (key : Key) (others : List Key) → list_any (same_key key) (key ∷ others) ≡ true
 any_first key others = ap (λ b. b || list_any (same_key key) others) (same_itself key)
 
--- or, both ways
-or_more : (a b : Bool) → b ≡ true → (a || b) ≡ true
-or_more true b e = refl
-or_more false b e = e
-
 -- what holds of each key among keys holds of all
 pub each_key : (P : Key → Type 0) (ks : List Key) →
     ((q : Key) → list_any (same_key q) ks ≡ true → P q) → AllByRecursion P ks
@@ -68,7 +64,7 @@ each_key P [] each = tt
 each_key P (key ∷ others) each = (
   each key (any_first key others),
   each_key P others
-      (λ q e. each q (or_more (same_key q key) (list_any (same_key q) others) e)),
+      (λ q e. each q (or_right (same_key q key) (list_any (same_key q) others) e)),
 )
 
 -- all keys of rows have bodies

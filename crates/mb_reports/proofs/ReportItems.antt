@@ -1,5 +1,6 @@
 -- The items of a report's last lines: written, read, and their bytes.
 use Rattle.std.proofs.Common.{List, None, Option, Some, [], ap, arith, false, length, nat_le, refl, suc, sym, true, zero, ℕ, ◌%◌, ◌&&◌, ◌*◌, ◌++◌, ◌+◌, ◌-◌, ◌/◌, ◌<◌, ◌==◌, ◌^◌, ◌∙◌, ◌∷◌, ◌≡◌, ◌≤◌, codes, cond, Bool}
+use Rattle.std.proofs.lemmas.Bool.{and_parts, le-leb, leb-true}
 use Rattle.std.proofs.lemmas.Bool.Decides.{nat_tests}
 use Rattle.std.proofs.lemmas.List.Elements.{All-from_recursion}
 use Rattle.std.proofs.lemmas.List.Folds.{list_all-append}
@@ -13,20 +14,12 @@ use Rattle.mb_reports.specs.Report.{fraction_item}
 use Rattle.mb_reports.specs.ReportText.{are_sums, both, positive_number, sums_of, two_numbers, wide_number}
 use Rattle.mb_text.proofs.ItemBytes.{decimal_is_item, is_item, is_item_byte}
 use Rattle.mb_text.proofs.LineReaders.{and_then_read, passing_read, passing_written}
-use Rattle.mb_text.proofs.NumeralItems.{both_pass, decimal_is_numeral, number_read, number_written, numeral_digits}
+use Rattle.mb_text.proofs.NumeralItems.{decimal_is_numeral, number_read, number_written, numeral_digits}
 use Rattle.mb_text.proofs.PieceLaws.{pieces_again}
 use Rattle.mb_text.specs.Laws.{Lacks}
 use Rattle.mb_text.specs.LineForms.{passing}
 use Rattle.mb_text.specs.Lines.{pieces}
 use Rattle.mb_weights.specs.Decimals.{decimals_of, digits}
-
--- a number up to another passes the test
-within : (low high : ℕ) → low ≤ high → nat_le low high ≡ true
-within low high small = grind (arith, nat_tests, small)
-
--- and what passes is one
-passed : (low high : ℕ) → nat_le low high ≡ true → low ≤ high
-passed low high e = grind (arith, nat_tests, e)
 
 -- a number below 2^128 is read from its decimal form
 wide_written : (n : ℕ) → n < 2 ^ 128 → wide_number (decimal n) ≡ Some n
@@ -49,7 +42,7 @@ pub positive_written : (n : ℕ) → IsPositive n →
     (positive_number (decimal n) ≡ Some n) × (is_item (decimal n) ≡ true)
 positive_written n is = (
   ap (option_and_then (passing (nat_le 1))) (wide_written n is.small)
-      ∙ passing_written (nat_le 1) n (within 1 n is.some),
+      ∙ passing_written (nat_le 1) n (le-leb 1 n is.some),
   decimal_is_item n (let s = is.small in omega arith),
 )
 
@@ -60,7 +53,7 @@ positive_read item n e =
     let step = and_then_read (wide_number item) (passing (nat_le 1)) n e in
     let tested = passing_read (nat_le 1) step.0 n step.2 in
     let found = wide_read item n (step.1 ∙ ap Some tested.0) in
-    (found.0, record { some = passed 1 n tested.1; small = found.1 })
+    (found.0, record { some = leb-true 1 n tested.1; small = found.1 })
 
 -- the two sums of a table of this weight
 pub record AreSums (weight : ℕ) (sums : ℕ × ℕ) : Type 0 where
@@ -110,8 +103,8 @@ two_numbers-more all first second (third ∷ others) e l = ap two_numbers e
 -- two sums pass the test
 sums_pass : (weight : ℕ) (sums : ℕ × ℕ) → AreSums weight sums → are_sums weight sums ≡ true
 sums_pass weight sums is =
-    ap (λ t. t && nat_le sums.0 sums.1) (within weight sums.0 is.low)
-    ∙ within sums.0 sums.1 is.high
+    ap (λ t. t && nat_le sums.0 sums.1) (le-leb weight sums.0 is.low)
+    ∙ le-leb sums.0 sums.1 is.high
 
 -- a fraction is an item
 fraction_is_item : (sums : ℕ × ℕ) → sums.0 < 10 ^ 64 → sums.1 < 10 ^ 64 →
@@ -155,11 +148,11 @@ sums_read weight item sums e =
     let step = and_then_read (two_numbers (pieces 47 item)) (passing (are_sums weight)) sums e in
     let tested = passing_read (are_sums weight) step.0 sums step.2 in
     let found = two_read (pieces 47 item) sums (step.1 ∙ ap Some tested.0) in
-    let pass = both_pass (nat_le weight sums.0) (nat_le sums.0 sums.1) tested.1 in (
+    let pass = and_parts (nat_le weight sums.0) (nat_le sums.0 sums.1) tested.1 in (
       sym (join_with_byte-slice_split 47 item) ∙ ap (join_with_byte 47) found.0,
       record {
-        low = passed weight sums.0 pass.0;
-        high = passed sums.0 sums.1 pass.1;
+        low = leb-true weight sums.0 pass.0;
+        high = leb-true sums.0 sums.1 pass.1;
         small = found.1;
       },
     )
@@ -181,6 +174,7 @@ digits_are_item (suc k) n =
 pub decimals_are_item : (below whole : ℕ) → is_item (decimals_of below whole) ≡ true
 decimals_are_item below whole = by (below == whole)
   where
-    by : (t : Bool) → is_item (cond t (codes "1.000000") (codes "0." ++ digits 6 (below * 10 ^ 6 / whole))) ≡ true
+    by : (t : Bool) → is_item (cond t (codes "1.000000")
+        (codes "0." ++ digits 6 (below * 10 ^ 6 / whole))) ≡ true
     by true = refl
     by false = digits_are_item 6 (below * 10 ^ 6 / whole)

@@ -67,7 +67,8 @@ name_said number word is_word name rest is =
 
 -- a name that was read is what is written
 name_back : (number : ℕ) (word : List ℕ) → is_item word ≡ true → (pieces : List (List ℕ))
-    (name : List ℕ) (rest : List (List ℕ)) → says number (name_after word) pieces ≡ Ok (name, rest) →
+    (name : List ℕ) (rest : List (List ℕ)) → says number (name_after word) pieces
+    ≡ Ok (name, rest) →
     (join_with_byte 10 pieces ≡ line (word ∷ name ∷ []) ++ join_with_byte 10 rest) × IsName name
 name_back number word is_word pieces name rest e =
     line_back (name_after word) (λ n. word ∷ n ∷ []) IsName (name_reads word is_word) number pieces

@@ -4,22 +4,9 @@ use Rattle.std.specs.Fmt.{decimal}
 use Rattle.std.specs.Prelude.{sum}
 use Rattle.mb_reports.proofs.ReportTexts.{text_is}
 use Rattle.mb_reports.specs.Report.{Report, fraction_item, report_text}
+use Rattle.mb_text.proofs.PutBehind.{four_put, three_put}
 use Rattle.mb_text.specs.Lines.{line}
 use Rattle.mb_weights.specs.Decimals.{decimals_of}
-
--- three pieces, put behind a text one after the other
-pub three_put : (before a b c x y z : List ℕ) → a ≡ before ++ x → b ≡ a ++ y → c ≡ b ++ z →
-    c ≡ before ++ (x ++ (y ++ z))
-three_put before a b c x y z ea eb ec =
-    ec ∙ ap (λ t. t ++ z) (eb ∙ ap (λ t. t ++ y) ea)
-    ∙ append_assoc (before ++ x) y z ∙ append_assoc before x (y ++ z)
-
--- four pieces
-pub four_put : (before a b c d w x y z : List ℕ) → a ≡ before ++ w → b ≡ a ++ x → c ≡ b ++ y →
-    d ≡ c ++ z → d ≡ before ++ (w ++ (x ++ (y ++ z)))
-four_put before a b c d w x y z ea eb ec ed =
-    three_put (before ++ w) b c d x y z (eb ∙ ap (λ t. t ++ x) ea) ec ed
-    ∙ append_assoc before w (x ++ (y ++ z))
 
 -- the line of a fraction, put behind a text
 pub fraction_put : (before a b c d e : List ℕ) (below whole : ℕ) →

@@ -1,5 +1,6 @@
 -- Rings one after the other: what the next one has, and what all of them have.
 use Rattle.std.proofs.Common.{Bool, List, [], ap, append-nil, append_assoc, arith, cond, false, inl, inr, length, length-append, not, refl, subst, suc, sym, true, zero, ℕ, ℤ, ◌&&◌, ◌++◌, ◌+◌, ◌∙◌, ◌∷◌, ◌≡◌, ◌⊎◌}
+use Rattle.std.proofs.lemmas.Bool.{and_from, and_parts, not-true}
 use Rattle.std.proofs.lemmas.List.Concat.{flat_map-append}
 use Rattle.std.specs.List.{filter}
 use Rattle.mb_matrix.specs.Ascending.{Ascends}
@@ -36,21 +37,6 @@ In-last (ring ∷ []) u i = In-left u ring [] i
 In-last (ring ∷ second ∷ rings) u i =
     In-right u ring (tables_of (second ∷ rings)) (In-last (second ∷ rings) u i)
 
--- two tests that both pass
-both-pass : (a b : Bool) → a ≡ true → b ≡ true → (a && b) ≡ true
-both-pass true b e f = f
-both-pass false b e f = e
-
--- the parts of two tests that both pass
-passed : (a b : Bool) → (a && b) ≡ true → (a ≡ true) × (b ≡ true)
-passed true b e = (refl, e)
-passed false b e = cc
-
--- a test that fails passes turned round
-not-true : (t : Bool) → not t ≡ true → t ≡ false
-not-true true e = cc
-not-true false e = refl
-
 -- a list passes a test at each element that a filter keeps
 pub filter-passes : (p : List ℕ → Bool) (v : List ℕ) (xs : List (List ℕ)) → In v (filter p xs) →
     p v ≡ true
@@ -75,7 +61,7 @@ module _ (fiber : Ring) (moves : List (List ℤ)) where
   unfolding next_ring
   next_ring-only rings v i =
       let both =
-      passed (is_near moves (last_ring rings) v) (not (stands_in (tables_of rings) v))
+      and_parts (is_near moves (last_ring rings) v) (not (stands_in (tables_of rings) v))
       (filter-passes (is_next rings) v fiber i) in (
         In-filter_only (is_next rings) v fiber i,
         IsNear-from_is_near moves (last_ring rings) v both.0,
@@ -89,7 +75,7 @@ module _ (fiber : Ring) (moves : List (List ℤ)) where
   unfolding next_ring
   next_ring-has rings v i near new =
       In-filter (is_next rings) v fiber i
-      (both-pass (is_near moves (last_ring rings) v) (not (stands_in (tables_of rings) v))
+      (and_from (is_near moves (last_ring rings) v) (not (stands_in (tables_of rings) v))
       (is_near-yes moves (last_ring rings) v near)
       (ap not (stands_in-no (tables_of rings) v new)))
 

@@ -95,7 +95,8 @@ module _ (moves : List (List ℤ)) (u : List ℕ) (step : ℤ) (end : ℕ) (now 
       )
 
   -- a table that was visited before the turn is an earlier one or has a mark
-  seen : (t : ℤ) (v : List ℕ) → end ≤ turn t → In v middle → In v before ⊎ MetBy (a.marks ++ more) t v
+  seen : (t : ℤ) (v : List ℕ) → end ≤ turn t → In v middle →
+      In v before ⊎ MetBy (a.marks ++ more) t v
   seen t v l i =
       elim (In-cases v before f.found
       (permutation-In (before ++ f.found) middle v f.finds.visited i)) [

@@ -83,6 +83,7 @@ pub fn take_steps(
     ensures room { OnOk result (length visited.new ≤ limit) }
     ensures refused { IfErr result (IsSearchFault (OneApart moves.now.rows table.old)
         limit visited.old) }
+    ensures back { OnOk result (table.new ≡ table.old) }
 {
     for z in moves.as_slice() {
         take_step(table, z, Sign::Plus, limit, visited, next)?;

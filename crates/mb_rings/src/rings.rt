@@ -60,7 +60,8 @@ impl Rings {
         }
     }
 
-    /// The root of the claims by which a walk found the rings, if they have one. It takes no memory.
+    /// The root of the claims by which a walk found the rings, if they have one. It takes no
+    /// memory.
     pub fn into_claims(self) -> Option<Root>
         ensures { result ≡ self.claims }
     {

@@ -1,5 +1,5 @@
-//! Samples of tests: matrices, certificates, tables and keys of texts: a library of the tests of the
-//! commands, of exact tests and of the walk by several workers.
+//! Samples of tests: matrices, certificates, tables and keys of texts: a library of the tests of
+//! the commands, of exact tests and of the walk by several workers.
 #![tactic(auto)]
 
 mod keys;

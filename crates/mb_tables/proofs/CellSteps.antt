@@ -1,7 +1,7 @@
 -- A step of a table is the same step at each cell, and what a cell refuses the table refuses.
 use Rattle.std.proofs.Common.{All, List, [], ap, arith, drop, get_or, length, pos, refl, subst, suc, sym, ℕ, ℤ, ◌+ℤ◌, ◌<◌, ◌∙◌, ◌∷◌, ◌≡◌}
-use Rattle.std.proofs.lemmas.Int.{ints}
 use Rattle.std.proofs.Math.Seq.{take-append_seam}
+use Rattle.std.proofs.lemmas.Int.{ints}
 use Rattle.std.specs.List.{refill}
 use Rattle.mb_tables.proofs.PartLaws.{entries_of-part}
 use Rattle.mb_tables.specs.Counts.{AreCounts, IsTable}
@@ -165,6 +165,7 @@ moved_written sign u items counts after move parts e f wide made long h =
     (λ k l.
     subst (λ list. IsMovedCount sign (get_or list k 0) (get_or move k (pos 0)) (get_or after k 0))
     same
-    (subst (λ list. IsMovedCount sign (get_or counts k 0) (get_or list k (pos 0)) (get_or after k 0))
+    (subst (λ list. IsMovedCount sign (get_or counts k 0) (get_or list k (pos 0))
+    (get_or after k 0))
     (ap (λ n. entries_of n parts) cells ∙ sym made)
     (h k (let a = ap length same in omega arith)))))

@@ -1,5 +1,5 @@
--- A refusal that is handed on from a call.
-use Rattle.std.proofs.Common.{Err, Ok, Option, Result, subst, sym, ◌≡◌}
+-- A refusal that is handed on from a call or a reading.
+use Rattle.std.proofs.Common.{Err, None, Ok, Option, Result, Some, ap, subst, sym, ◌∙◌, ◌≡◌}
 use Rattle.std.specs.Prelude.{IfErr}
 use Rattle.std.specs.Result.{IsErrAnd}
 use Rattle.mb_tables.specs.Answers.{Gives, IsRefused}
@@ -17,3 +17,16 @@ pub gives-handed_on : {X Y F G : Type 0} (cause : F → Option G) (view : X → 
 gives-handed_on cause view (Ok x) fault says h refused = absurd h
 gives-handed_on cause view (Err e) fault says h refused =
     subst (λ f. IsRefused (cause f) says) (sym h) refused
+
+-- a refusal for this cause
+pub refused_at : {X F : Type 0} (cause : Option F) (fault : F) (says : Result X F) →
+    cause ≡ Some fault → says ≡ Err fault → IsRefused cause says
+refused_at None fault says e f = absurd cc
+refused_at (Some wrong) fault says e f = let same : fault ≡ wrong = cc in f ∙ ap Err same
+
+-- a refusal of one reading is that of another that stops where the first does
+pub refused_on : {X Y F : Type 0} (cause : Option F) (first : Result X F) (whole : Result Y F) →
+    IsRefused cause first → ((wrong : F) → first ≡ Err wrong → whole ≡ Err wrong) →
+    IsRefused cause whole
+refused_on None first whole h on = tt
+refused_on (Some wrong) first whole h on = on wrong h

@@ -1,4 +1,5 @@
--- The parts that are picked of a move's entries are as the program keeps them: each of a cell of its
+-- The parts that are picked of a move's entries are as the program keeps them: each of a cell of
+-- its
 -- own, and the entries are those of the move.
 use Rattle.std.proofs.Common.{Bool, List, [], ap, arith, cond, false, get_or, length, negsuc, pos, refl, subst, suc, sym, true, ℕ, ℤ, ◌++◌, ◌+◌, ◌<◌, ◌∙◌, ◌∷◌, ◌≡◌, ◌≤◌}
 use Rattle.std.proofs.lemmas.Bool.Decides.{nat_tests}
@@ -7,7 +8,7 @@ use Rattle.std.specs.List.{AllByRecursion}
 use Rattle.mb_tables.proofs.PickedParts.{parts_of, picked-entries}
 use Rattle.mb_tables.specs.Entries.{AreEntries}
 use Rattle.mb_tables.specs.declared.part.Part.{Part}
-use Rattle.mb_tables.specs.loops.Parts.{AreApart, AreParts, is_high, is_low, picked}
+use Rattle.mb_tables.specs.loops.Parts.{AreApart, AreMoveParts, is_high, is_low, picked}
 
 -- what follows from a fact follows for each part
 each-part : (P Q : Part → Type 0) → ((part : Part) → P part → Q part) → (parts : List Part) →
@@ -116,7 +117,7 @@ length-picked test k (z ∷ entries) = by (test z) (length-picked test (suc k) e
 
 -- the parts of the entries of a move are as the program keeps them
 pub are_parts : (entries : List ℤ) (lows : ℕ) → AreEntries entries →
-    lows ≤ length (parts_of entries) → AreParts (length entries) lows (parts_of entries)
+    lows ≤ length (parts_of entries) → AreMoveParts (length entries) lows (parts_of entries)
 are_parts entries lows sound split =
     let low = picked is_low 0 entries in
     let high = picked is_high 0 entries in

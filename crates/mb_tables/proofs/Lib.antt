@@ -4,6 +4,7 @@ pub mod JoinedTables
 pub mod KeptParts
 pub mod ListLaws
 pub mod OneStep
+pub mod OptionLaws
 pub mod PartLaws
 pub mod PartSteps
 pub mod PickedParts

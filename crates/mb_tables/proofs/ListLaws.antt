@@ -185,3 +185,9 @@ same_at d (x ∷ xs) (y ∷ ys) e h =
     let first = h 0 (omega arith) in
     let rest = same_at d xs ys (omega arith) (λ k l. h (suc k) (omega arith)) in
     cc
+
+-- what stands between a front and a back
+pub get-middle : {X : Type 0} (xs : List X) (x : X) (ys : List X) →
+    slice_get (xs ++ (x ∷ ys)) (length xs) ≡ Some x
+get-middle [] x ys = refl
+get-middle (z ∷ xs) x ys = get-middle xs x ys

@@ -7,26 +7,7 @@ use lib.Pointwise.{bytes_decides, pointwise}
 use Rattle.mb_tables.specs.Laws.{StepsAreDecided}
 use Rattle.mb_tables.specs.Lists.{In, stands_in}
 use Rattle.mb_tables.specs.Step.{Adds, IsNear, OneApart, adds, is_near, is_step}
-
--- both of two tests that pass together
-both-true : (a b : Bool) → (a && b) ≡ true → (a ≡ true) × (b ≡ true)
-both-true true b e = (refl, e)
-both-true false b e = cc
-
--- one of two tests of which one passes
-either-true : (a b : Bool) → (a || b) ≡ true → (a ≡ true) ⊎ (b ≡ true)
-either-true true b e = inl refl
-either-true false b e = inr e
-
--- a test that the first of two decides
-true-either : (a b : Bool) → a ≡ true → (a || b) ≡ true
-true-either true b e = refl
-true-either false b e = cc
-
--- a test that the second of two decides
-either-second : (a b : Bool) → b ≡ true → (a || b) ≡ true
-either-second true b e = refl
-either-second false b e = e
+use Rattle.std.proofs.lemmas.Bool.{and_parts, or_cases, or_left, or_right}
 
 -- where the test passes, the table and the move make the second table
 pub Adds-from_adds : (u : List ℕ) (move : List ℤ) (v : List ℕ) → adds u move v ≡ true →
@@ -38,7 +19,7 @@ Adds-from_adds [] (z ∷ move) v e = cc
 Adds-from_adds (x ∷ u) [] v e = cc
 Adds-from_adds (x ∷ u) (z ∷ move) [] e = cc
 Adds-from_adds (x ∷ u) (z ∷ move) (y ∷ v) e =
-    let r = both-true (int_eq (pos y) (pos x +ℤ z)) (adds u move v) e in
+    let r = and_parts (int_eq (pos y) (pos x +ℤ z)) (adds u move v) e in
     ((signed_Decides (pos y) (pos x +ℤ z)).0 r.0, Adds-from_adds u move v r.1)
 
 -- and the other way round
@@ -59,7 +40,7 @@ some-passes : {X : Type 0} (p : X → Bool) (xs : List X) → list_any p xs ≡ 
     (k : ℕ) × (x : X) × (slice_get xs k ≡ Some x) × (p x ≡ true)
 some-passes p [] e = cc
 some-passes p (x ∷ xs) e =
-    elim (either-true (p x) (list_any p xs) e) [
+    elim (or_cases (p x) (list_any p xs) e) [
       | inl f ↦ (0, x, refl, f)
       | inr f ↦ let r = some-passes p xs f in (suc r.0, r.1, r.2, r.3)
     ]
@@ -69,9 +50,9 @@ passes-some : {X : Type 0} (p : X → Bool) (xs : List X) (k : ℕ) (x : X) →
     slice_get xs k ≡ Some x → p x ≡ true → list_any p xs ≡ true
 passes-some p [] k x e f = cc
 passes-some p (y ∷ xs) zero x e f =
-    let g : y ≡ x = cc in true-either (p y) (list_any p xs) (ap p g ∙ f)
+    let g : y ≡ x = cc in or_left (p y) (list_any p xs) (ap p g ∙ f)
 passes-some p (y ∷ xs) (suc k) x e f =
-    either-second (p y) (list_any p xs) (passes-some p xs k x e f)
+    or_right (p y) (list_any p xs) (passes-some p xs k x e f)
 
 -- the same for an element of the list
 pub In-passes : {X : Type 0} (p : X → Bool) (xs : List X) → list_any p xs ≡ true →
@@ -79,7 +60,7 @@ pub In-passes : {X : Type 0} (p : X → Bool) (xs : List X) → list_any p xs �
 unfolding In
 In-passes p [] e = cc
 In-passes p (x ∷ xs) e =
-    elim (either-true (p x) (list_any p xs) e) [
+    elim (or_cases (p x) (list_any p xs) e) [
       | inl f ↦ (x, inl refl, f)
       | inr f ↦ let r = In-passes p xs f in (r.0, inr r.1, r.2)
     ]
@@ -89,15 +70,15 @@ pub passes-In : {X : Type 0} (p : X → Bool) (xs : List X) (x : X) → In x xs 
     list_any p xs ≡ true
 unfolding In
 passes-In p [] x i f = absurd i
-passes-In p (y ∷ xs) x (inl e) f = true-either (p y) (list_any p xs) (ap p (sym e) ∙ f)
-passes-In p (y ∷ xs) x (inr i) f = either-second (p y) (list_any p xs) (passes-In p xs x i f)
+passes-In p (y ∷ xs) x (inl e) f = or_left (p y) (list_any p xs) (ap p (sym e) ∙ f)
+passes-In p (y ∷ xs) x (inr i) f = or_right (p y) (list_any p xs) (passes-In p xs x i f)
 
 -- a table that the test finds one step away is one step away
 pub OneApart-from_is_step : (moves : List (List ℤ)) (u v : List ℕ) → is_step moves u v ≡ true →
     OneApart moves u v
 OneApart-from_is_step moves u v e =
     let r = some-passes (λ move. adds u move v || adds v move u) moves e in
-    (r.0, r.1, r.2, by r.1 (either-true (adds u r.1 v) (adds v r.1 u) r.3))
+    (r.0, r.1, r.2, by r.1 (or_cases (adds u r.1 v) (adds v r.1 u) r.3))
   where
     by : (move : List ℤ) → (adds u move v ≡ true) ⊎ (adds v move u ≡ true) →
         Adds u move v ⊎ Adds v move u
@@ -111,8 +92,8 @@ is_step-yes moves u v h =
     passes-some (λ move. adds u move v || adds v move u) moves h.0 h.1 h.2 (by h.1 h.3)
   where
     by : (move : List ℤ) → Adds u move v ⊎ Adds v move u → (adds u move v || adds v move u) ≡ true
-    by move (inl a) = true-either (adds u move v) (adds v move u) (adds-yes u move v a)
-    by move (inr a) = either-second (adds u move v) (adds v move u) (adds-yes v move u a)
+    by move (inl a) = or_left (adds u move v) (adds v move u) (adds-yes u move v a)
+    by move (inr a) = or_right (adds u move v) (adds v move u) (adds-yes v move u a)
 
 -- a table that the test finds near a list is one step from a table of the list
 pub IsNear-from_is_near : (moves : List (List ℤ)) (list : List (List ℕ)) (v : List ℕ) →

@@ -30,7 +30,8 @@ impl Model for Moves {
 
     ghost view = { λ m. record { width = m.width; rows = m.moves.items } };
 
-    ghost invariant = { λ m. AreRows 0 most_moves (record { width = m.width; rows = m.moves.items }) };
+    ghost invariant = { λ m.
+        AreRows 0 most_moves (record { width = m.width; rows = m.moves.items }) };
 }
 
 impl Moves {

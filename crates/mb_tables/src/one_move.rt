@@ -29,13 +29,13 @@ pub struct Move {
 
 impl Model for Move {
     ghost use Rattle.std.specs.Prelude.{List, ℤ};
-    ghost use Rattle.mb_tables.specs.loops.Parts.{AreParts, entries_of};
+    ghost use Rattle.mb_tables.specs.loops.Parts.{AreMoveParts, entries_of};
 
     ghost Value = { List ℤ };
 
     ghost view = { λ z. entries_of z.cells z.parts.items };
 
-    ghost invariant = { λ z. AreParts z.cells z.lows z.parts.items };
+    ghost invariant = { λ z. AreMoveParts z.cells z.lows z.parts.items };
 }
 
 /// Why a list of numbers is no move.

@@ -86,7 +86,8 @@ pub fn move_counts(counts: &mut [u32], parts: &[Part], sign: Sign)
     requires fits { AreCounts counts.old }
     requires each { CanMoveParts sign counts.old parts.now 0 (length parts.now) }
     ensures fits { AreCounts counts.new }
-    ensures moved { (k : ℕ) → k < length counts.old → IsMovedCount sign (slice_index_or counts.old k 0)
+    ensures moved { (k : ℕ) → k < length counts.old
+        → IsMovedCount sign (slice_index_or counts.old k 0)
         (slice_index_or (entries_of (length counts.old) parts.now) k (pos 0))
         (slice_index_or counts.new k 0) }
 {

@@ -43,7 +43,8 @@ fn standard_output(rt: HostRuntime) -> Result<(), Fail> {
     Ok(())
 }
 
-// A writer that takes nothing of a piece is a fault, at once; of an empty piece nothing is to be taken.
+// A writer that takes nothing of a piece is a fault, at once; of an empty piece nothing is to be
+// taken.
 #[test]
 fn a_writer_that_takes_nothing(rt: HostRuntime) -> Result<(), Fail> {
     assert!(rt; write_whole(&mut StuckWriter, b"x").is_err());
@@ -133,7 +134,8 @@ fn fails_as_listed<K: Keeper>(alloc: Global, keeper: &mut K) -> Result<bool, Fai
     )
 }
 
-// A keeper is a map from kind and name; its listed calls fail, whatever they are, and leave its rows.
+// A keeper is a map from kind and name; its listed calls fail, whatever they are, and leave its
+// rows.
 #[test]
 fn keepers(rt: HostRuntime) -> Result<(), Fail> {
     let alloc = rt.alloc();

@@ -1,14 +1,14 @@
 -- The decimal form of a number, and that it is the only one without leading zeros.
 use Rattle.std.proofs.Common.{All, Bool, List, None, Option, Some, [], ap, append_assoc, arith, cond, eqb, false, get_or, leb, length, not, refl, sym, true, ℕ, ◌%◌, ◌&&◌, ◌*◌, ◌+◌, ◌++◌, ◌-◌, ◌/◌, ◌<◌, ◌^◌, ◌∙◌, ◌∷◌, ◌≡◌, ◌≢◌, ◌≤◌, inl, inr, ◌⊎◌}
-use Rattle.std.proofs.lemmas.Bool.{cases_lt, eqb-false, le-leb, leb-true, ne_eqb}
+use Rattle.std.proofs.lemmas.Bool.{cases_lt, eqb-false, le-leb, leb-true, ne_eqb, not-true}
 use Rattle.std.proofs.lemmas.Fmt.{decimal_by_steps_wide, decimal_digit, decimal_step_wide}
 use Rattle.std.proofs.lemmas.List.{append-nil}
 use Rattle.std.proofs.lemmas.List.Elements.{All-append, All-from_recursion}
 use Rattle.std.specs.Char.{is_ascii_digit}
 use Rattle.std.specs.Fmt.{decimal}
+use Rattle.mb_text.proofs.NumberSteps.{natural_of-some}
 use Rattle.mb_text.specs.Numerals.{natural_after, natural_of}
 use Rattle.mb_text.specs.Plain.{is_plain, plain_of}
-use Rattle.mb_text.proofs.NumberSteps.{natural_of-some}
 
 -- a digit from its number
 digit_yes : (d : ℕ) → d ≤ 9 → is_ascii_digit (48 + d) ≡ true
@@ -145,16 +145,12 @@ plain_is_decimal (b ∷ c ∷ digits) n small e =
     let range = digit_range b p.0 in
     let low = range.0 in
     let high = range.1 in
-    let other : b ≢ 48 = eqb-false b 48 (not_false (eqb b 48) t.0) in
+    let other : b ≢ 48 = eqb-false b 48 (not-true (eqb b 48) t.0) in
     let number = 0 * 10 + (b - 48) in
     let same : b ≡ 48 + number = omega arith in
     ap (λ k. k ∷ c ∷ digits) same
     ∙ ap (λ form. form ++ c ∷ digits) (sym (decimal_digit number (omega arith)))
     ∙ decimal_after number (c ∷ digits) n (omega arith) small p.1
-  where
-    not_false : (test : Bool) → not test ≡ true → test ≡ false
-    not_false true h = absurd cc
-    not_false false h = refl
 
 -- a decimal form has no needless 0 in front
 plain_form : (n : ℕ) (digits : List ℕ) → IsForm n digits → is_plain digits ≡ true

@@ -17,3 +17,4 @@ pub mod NumberLists
 pub mod RecordSteps
 pub mod SaidLines
 pub mod LineReaders
+pub mod PutBehind

@@ -1,6 +1,6 @@
 -- Numerals: their digits, and the numbers up to a limit that they are read as.
 use Rattle.std.proofs.Common.{Bool, List, None, Option, Some, [], ap, arith, cond, false, nat_le, refl, true, ℕ, ◌&&◌, ◌*◌, ◌+◌, ◌-◌, ◌<◌, ◌^◌, ◌∙◌, ◌∷◌, ◌≡◌, ◌≤◌}
-use Rattle.std.proofs.lemmas.Bool.Decides.{nat_tests}
+use Rattle.std.proofs.lemmas.Bool.{and_parts, le-leb, leb-true}
 use Rattle.std.specs.Char.{is_ascii_digit}
 use Rattle.std.specs.Fmt.{decimal}
 use Rattle.std.specs.List.{list_all}
@@ -8,11 +8,6 @@ use Rattle.mb_text.proofs.DecimalForms.{decimal_is_plain, plain_is_decimal}
 use Rattle.mb_text.specs.LineForms.{is_numeral}
 use Rattle.mb_text.specs.Numerals.{natural_after, natural_of}
 use Rattle.mb_text.specs.Plain.{at_most, is_plain, plain_of}
-
--- two tests that both pass
-pub both_pass : (s t : Bool) → (s && t) ≡ true → (s ≡ true) × (t ≡ true)
-both_pass true t e = (refl, e)
-both_pass false t e = absurd cc
 
 -- a value that was let through is the one that was tested
 pub let_through : {A : Type 0} (t : Bool) (x y : A) → cond t (Some x) None ≡ Some y →
@@ -53,22 +48,14 @@ decimal_is_numeral n small = numeral_read (decimal n) n (decimal_is_plain n smal
 -- the bytes of a numeral are digits
 pub numeral_digits : (item : List ℕ) → is_numeral item ≡ true →
     list_all is_ascii_digit item ≡ true
-numeral_digits item e = (both_pass (is_plain item) (list_all is_ascii_digit item) e).1
-
--- a number up to a limit passes
-within : (highest n : ℕ) → n ≤ highest → nat_le n highest ≡ true
-within highest n small = grind (arith, nat_tests, small)
-
--- and what passes is one
-passed : (highest n : ℕ) → nat_le n highest ≡ true → n ≤ highest
-passed highest n e = grind (arith, nat_tests, e)
+numeral_digits item e = (and_parts (is_plain item) (list_all is_ascii_digit item) e).1
 
 -- a number up to a limit is read from its decimal form
 pub number_written : (highest n : ℕ) → highest < 10 ^ 64 → n ≤ highest →
     at_most highest (plain_of (decimal n)) ≡ Some n
 number_written highest n far small =
     ap (at_most highest) (decimal_is_plain n (omega arith))
-    ∙ ap (λ t. cond t (Some n) None) (within highest n small)
+    ∙ ap (λ t. cond t (Some n) None) (le-leb n highest small)
 
 -- and an item that is read as one is its decimal form
 pub number_read : (highest : ℕ) (item : List ℕ) (n : ℕ) → highest < 10 ^ 64 →
@@ -81,5 +68,5 @@ number_read highest item n far e = by (plain_of item) refl e
     by (Some m) em f =
         let through = let_through (nat_le m highest) m n f in
         let same = through.1 in
-        let small = passed highest m through.0 in
+        let small = leb-true m highest through.0 in
         (plain_is_decimal item n (omega arith) (em ∙ ap Some same), omega arith)

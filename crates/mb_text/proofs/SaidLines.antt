@@ -1,5 +1,5 @@
 -- Lines that are written are read, and what is read is what is written.
-use Rattle.std.proofs.Common.{List, None, Ok, Option, Result, Some, [], ap, append_assoc, arith, length, refl, sym, true, ℕ, ◌++◌, ◌<◌, ◌∙◌, ◌∷◌, ◌≡◌}
+use Rattle.std.proofs.Common.{List, None, Ok, Option, Result, Some, [], ap, append_assoc, arith, codes, length, refl, sym, true, ℕ, ◌++◌, ◌<◌, ◌∙◌, ◌∷◌, ◌≡◌}
 use Rattle.std.proofs.lemmas.List.Splits.{join_with_byte-slice_split}
 use Rattle.std.specs.List.{join_with_byte}
 use Rattle.std.specs.Option.{option_map}
@@ -61,7 +61,7 @@ says_read {A} number read (first ∷ next ∷ others) x rest e = by (read first)
         }
 
 -- a line of these items and what follows it
-line_joined : (first : List ℕ) (list : List (List ℕ)) (rest : List ℕ) →
+pub line_joined : (first : List ℕ) (list : List (List ℕ)) (rest : List ℕ) →
     items first ≡ list → first ++ 10 ∷ rest ≡ line list ++ rest
 unfolding line
 line_joined first list rest e =
@@ -84,3 +84,8 @@ ends_read number [] x e = absurd cc
 ends_read number ([] ∷ []) x e = refl
 ends_read number ([] ∷ (next ∷ others)) x e = absurd cc
 ends_read number ((b ∷ line) ∷ others) x e = absurd cc
+
+-- the last line of a record
+pub end_line : codes "end\n" ≡ line (codes "end" ∷ [])
+unfolding line
+end_line = refl

@@ -12,3 +12,8 @@ wrong_line OutOfMemory = None
 abbrev pub in_line : {A : Type 0} → ℕ → Option A → Result A ℕ
 in_line number (Some x) = Ok x
 in_line number None = Err number
+
+-- what is refused in the line of this number
+abbrev pub or_line : {A F : Type 0} → ℕ → Result A F → Result A ℕ
+or_line number (Ok x) = Ok x
+or_line number (Err fault) = Err number

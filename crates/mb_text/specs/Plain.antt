@@ -31,6 +31,15 @@ abbrev pub at_most : ℕ → Option ℕ → Option ℕ
 at_most highest None = None
 at_most highest (Some n) = if nat_le n highest then Some n else None
 
+-- a number from the lowest on
+abbrev pub at_least : ℕ → Option ℕ → Option ℕ
+at_least lowest None = None
+at_least lowest (Some n) = if nat_le lowest n then Some n else None
+
+-- the number from the lowest to the highest that an item writes
+abbrev pub number_within : ℕ → ℕ → List ℕ → Option ℕ
+number_within lowest highest item = at_least lowest (at_most highest (plain_of item))
+
 -- a number of a size up to a limit
 abbrev pub size_at_most : ℕ → Option ℤ → Option ℤ
 size_at_most highest None = None

@@ -20,7 +20,7 @@ pub use line_forms::{item_after, numbers_after, numbers_of, rest_after};
 pub use names::{is_name, read_name};
 pub use numerals::{capped_natural, capped_number};
 pub use pieces::{after_word, next_item, next_line, next_piece};
-pub use plain::{is_numeral, plain_number, plain_signed};
+pub use plain::{is_numeral, number_within, plain_number, plain_signed};
 pub use plain_lines::{PlainNumber, read_numbers};
 pub use record_fault::RecordFault;
 pub use record_lines::{read_end, read_exactly, take_line};

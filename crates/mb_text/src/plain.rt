@@ -1,12 +1,20 @@
 //! Numbers that have exactly one spelling, alone and in lines.
 
-ghost use Rattle.std.specs.Prelude.{◌≡◌, ◌<◌, ◌≤◌, ◌^◌, ◌*◌, ◌+◌, SomeIff, pos};
+ghost use Rattle.std.specs.Prelude.{◌≡◌, ◌<◌, ◌≤◌, ◌^◌, ◌*◌, ◌+◌, IfSome, SomeIff, pos};
 ghost use Rattle.std.specs.Char.{is_ascii_digit};
 ghost use Rattle.std.specs.List.{list_all};
 ghost use Rattle.std.specs.Option.{option_and_then, option_map};
 ghost use Rattle.mb_text.specs.LineForms.{is_numeral};
 ghost use Rattle.mb_text.specs.Numerals.{natural_of};
-ghost use Rattle.mb_text.specs.Plain.{at_most, below_zero, is_plain, plain_of, plain_signed_of, size_at_most};
+ghost use Rattle.mb_text.specs.Plain.{
+  at_most,
+  below_zero,
+  is_plain,
+  number_within,
+  plain_of,
+  plain_signed_of,
+  size_at_most,
+};
 
 use crate::numerals::is_digit;
 
@@ -104,6 +112,19 @@ pub fn plain_number(item: &[u8], highest: u128) -> Option<u128>
     match short_within(item, highest as u64) {
         None => None,
         Some(n) => Some(u128::from(n)),
+    }
+}
+
+/// The number from the lowest to the highest that an item is: decimal without leading zeros. None
+/// for every other item.
+pub fn number_within(item: &[u8], lowest: u64, highest: u64) -> Option<u64>
+    ensures number { result ≡ number_within lowest highest item.now }
+    ensures low { IfSome result (λ n. lowest ≤ n) }
+    ensures high { IfSome result (λ n. n ≤ highest) }
+{
+    match plain_number(item, u128::from(highest)) {
+        Some(n) if u128::from(lowest) <= n => Some(n as u64),
+        _ => None,
     }
 }
 

@@ -11,7 +11,7 @@ use Rattle.mb_tables.specs.Step.{IsNear, Moved, OneApart}
 use Rattle.mb_tables.specs.declared.sign.Sign.TheVariants.{Minus, Plus}
 use Rattle.mb_walk.proofs.OwnedParts.{In-part, part-In, parts-put, put-tables}
 use Rattle.mb_walk.specs.Owned.{owner_of}
-use Rattle.mb_walk.specs.loops.Piles.{AreParts, Deals, IsDealer, IsPut, dealt_by, kept}
+use Rattle.mb_walk.specs.loops.Piles.{AreOwned, Deals, IsDealer, IsPut, dealt_by, kept}
 use Rattle.mb_walk.specs.declared.owner.Owner.{Owner}
 use Rattle.mb_walk.specs.declared.dealer.Dealer.{Dealer}
 
@@ -179,7 +179,7 @@ pub dealer-same : (n room : ℕ) (known : List (List ℕ)) (before after : Deale
     IsDealer n room known before → after.piles.items ≡ before.piles.items →
     after.dealt ≡ before.dealt → IsDealer n room known after
 dealer-same n room known before after h e count = record {
-  parts = subst (AreParts n) (sym e) h.parts;
+  parts = subst (AreOwned n) (sym e) h.parts;
   count = count ∙ h.count ∙ ap (λ list. length (tables_of list)) (sym e);
   most = subst (λ k. k ≤ room + 1) (sym count) h.most;
   new = λ v i k. h.new v (subst (λ list. In v (tables_of list)) e i) k;
@@ -195,7 +195,7 @@ owner-has owners i o l is table v e h =
 
 -- a table that is kept is kept by its owner
 pub has-owner : (owners : List Owner) (i : ℕ) (o : Owner) → i < length owners →
-    o ≡ get_or owners i o → AreParts (length owners) (kept owners) → (table : List ℕ) →
+    o ≡ get_or owners i o → AreOwned (length owners) (kept owners) → (table : List ℕ) →
     owner_of (length owners) table ≡ i → In table (tables_of (kept owners)) →
     In table (get_or owners i o).visited
 has-owner owners i o l is parts table owned h =

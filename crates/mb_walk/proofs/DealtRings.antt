@@ -14,7 +14,7 @@ use Rattle.mb_tables.specs.Lists.{In}
 use Rattle.mb_tables.specs.Step.{IsNear}
 use Rattle.mb_walk.proofs.OwnedParts.{distinct-parts}
 use Rattle.mb_walk.specs.declared.dealer.Dealer.{Dealer}
-use Rattle.mb_walk.specs.loops.Piles.{AreDealt, AreParts, Deals, HasDealt, IsDealer, IsIdle, IsOver, IsWhole, dealt_by}
+use Rattle.mb_walk.specs.loops.Piles.{AreDealt, AreOwned, Deals, HasDealt, IsDealer, IsIdle, IsOver, IsWhole, dealt_by}
 
 -- the tables of empty piles
 no-tables : (piles : List Ring) → All (λ pile. pile ≡ []) piles → tables_of piles ≡ []
@@ -26,7 +26,7 @@ no-tables (p ∷ piles) h =
     ap (λ t. t ++ tables_of piles) e ∙ f
 
 -- empty piles are parts
-no-parts : (n : ℕ) (piles : List Ring) → All (λ pile. pile ≡ []) piles → AreParts n piles
+no-parts : (n : ℕ) (piles : List Ring) → All (λ pile. pile ≡ []) piles → AreOwned n piles
 unfolding In
 no-parts n piles h j part e =
     let l : j < length piles = place-within piles j part e in

@@ -5,4 +5,5 @@ pub mod MixedCounts
 pub mod OpenOwners
 pub mod OwnedParts
 pub mod OwnerLists
+pub mod RingCells
 pub mod TakenOver

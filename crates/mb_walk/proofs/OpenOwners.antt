@@ -9,12 +9,12 @@ use Rattle.mb_rings.specs.loops.Found.{AreDistinct}
 use Rattle.mb_tables.proofs.ListLaws.{get-front, get-last, place-within}
 use Rattle.mb_tables.specs.Lists.{In}
 use Rattle.mb_walk.specs.Owned.{owner_of}
-use Rattle.mb_walk.specs.loops.Piles.{AreParts, IsPart, kept}
+use Rattle.mb_walk.specs.loops.Piles.{AreOwned, IsOwned, kept}
 use Rattle.mb_walk.specs.declared.owner.Owner.{Owner}
 
 -- the parts of the first owners: that of the first table's owner has it, and the others have none
 pub record AreOpen (n : ℕ) (start : List ℕ) (parts : List Ring) : Type 0 where
-  pub parts_are : AreParts n parts
+  pub parts_are : AreOwned n parts
   pub before : length parts ≤ owner_of n start → tables_of parts ≡ []
   pub after : owner_of n start < length parts → IsPermutation (start ∷ []) (tables_of parts)
 
@@ -54,7 +54,7 @@ open-part n start parts part h one none = record {
         let f = length-append parts (part ∷ []) in omega arith
 
     last : (length parts ≡ owner_of n start) ⊎ (length parts ≡ owner_of n start → ⊥) →
-        IsPart n (length parts) part
+        IsOwned n (length parts) part
     last (inl s) = record {
       once =
           distinct-permutation (start ∷ []) part (one s)
@@ -73,15 +73,15 @@ open-part n start parts part h one none = record {
     decide a b = grind arith
 
     at : (j : ℕ) (p : Ring) → slice_get (parts ++ part ∷ []) j ≡ Some p →
-        (j < length parts) ⊎ (j ≡ length parts) → IsPart n j p
+        (j < length parts) ⊎ (j ≡ length parts) → IsOwned n j p
     at j p e (inl l) = h.parts_are j p (sym (get-front parts (part ∷ []) j l) ∙ e)
     at j p e (inr s) =
         let there : slice_get (parts ++ part ∷ []) (length parts) ≡ Some p =
         subst (λ k. slice_get (parts ++ part ∷ []) k ≡ Some p) s e in
         let here = get-last parts part in
         let is : part ≡ p = cc in
-        subst (λ k. IsPart n k p) (sym s)
-        (subst (IsPart n (length parts)) is (last (decide (length parts) (owner_of n start))))
+        subst (λ k. IsOwned n k p) (sym s)
+        (subst (IsOwned n (length parts)) is (last (decide (length parts) (owner_of n start))))
 
 -- the same of a list of owners
 pub open-owner : (n number : ℕ) (start : List ℕ) (owners more : List Owner) (owner : Owner) →

@@ -8,10 +8,10 @@ use Rattle.mb_rings.specs.Ring.{Ring, tables_of}
 use Rattle.mb_rings.specs.loops.Found.{AreDistinct}
 use Rattle.mb_tables.specs.Lists.{In}
 use Rattle.mb_walk.specs.Owned.{owner_of}
-use Rattle.mb_walk.specs.loops.Piles.{AreParts, IsPart, IsPut}
+use Rattle.mb_walk.specs.loops.Piles.{AreOwned, IsOwned, IsPut}
 
 -- a table stands in the part of its owner
-pub In-part : (n : ℕ) (parts : List Ring) → AreParts n parts → (j : ℕ) (part : Ring) →
+pub In-part : (n : ℕ) (parts : List Ring) → AreOwned n parts → (j : ℕ) (part : Ring) →
     slice_get parts j ≡ Some part → (v : List ℕ) → owner_of n v ≡ j → In v (tables_of parts) →
     In v part
 In-part n parts h j part e v owned i =
@@ -29,14 +29,14 @@ part-In parts j part e v i = flat-In (λ (p : Ring). p) v parts j part e i
 
 -- no table stands twice in parts from a place on
 distinct-from : (n k : ℕ) (parts : List Ring) →
-    ((j : ℕ) (part : Ring) → slice_get parts j ≡ Some part → IsPart n (k + j) part) →
+    ((j : ℕ) (part : Ring) → slice_get parts j ≡ Some part → IsOwned n (k + j) part) →
     AreDistinct (tables_of parts)
 distinct-from n k [] h = distinct-none
 distinct-from n k (p ∷ parts) h =
     distinct-append p (tables_of parts) (h 0 p refl).once
     (distinct-from n (k + 1) parts (λ j part e.
     let same : k + suc j ≡ k + 1 + j = omega arith in
-    subst (λ m. IsPart n m part) same (h (suc j) part e)))
+    subst (λ m. IsOwned n m part) same (h (suc j) part e)))
     (λ v i a.
     let r = In-flat (λ (q : Ring). q) v parts a in
     let here = (h 0 p refl).owned v i in
@@ -44,16 +44,16 @@ distinct-from n k (p ∷ parts) h =
     let both : k + 0 ≡ k + suc r.0 = sym here ∙ there in absurd (omega arith))
 
 -- no table stands twice in all parts
-pub distinct-parts : (n : ℕ) (parts : List Ring) → AreParts n parts →
+pub distinct-parts : (n : ℕ) (parts : List Ring) → AreOwned n parts →
     AreDistinct (tables_of parts)
 distinct-parts n parts h =
     distinct-from n 0 parts (λ j part e.
-    let same : j ≡ 0 + j = omega arith in subst (λ m. IsPart n m part) same (h j part e))
+    let same : j ≡ 0 + j = omega arith in subst (λ m. IsOwned n m part) same (h j part e))
 
 -- a part with a table more
-pub part-put : (n j : ℕ) (table : List ℕ) (part more : Ring) → IsPart n j part →
+pub part-put : (n j : ℕ) (table : List ℕ) (part more : Ring) → IsOwned n j part →
     owner_of n table ≡ j → (In table part → ⊥) → IsPermutation (table ∷ part) more →
-    IsPart n j more
+    IsOwned n j more
 unfolding In
 part-put n j table part more h owned new p = record {
   once =
@@ -117,19 +117,20 @@ put-tables (suc j) table (b ∷ bs) (a ∷ as_) h =
     (IsPermutation-append_right b (table ∷ tables_of bs) (tables_of as_) rest))
 
 -- the piles are parts again
-pub parts-put : (n j : ℕ) (table : List ℕ) (before after : List Ring) → AreParts n before →
+pub parts-put : (n j : ℕ) (table : List ℕ) (before after : List Ring) → AreOwned n before →
     (h : IsPut j table before after) → owner_of n table ≡ j → (In table h.part → ⊥) →
-    AreParts n after
+    AreOwned n after
 parts-put n j table before after h p owned new k part e = by (cases k j)
   where
     cases : (a b : ℕ) → (a ≡ b) ⊎ (a ≡ b → ⊥)
     cases a b = grind arith
 
-    by : (k ≡ j) ⊎ (k ≡ j → ⊥) → IsPart n k part
+    by : (k ≡ j) ⊎ (k ≡ j → ⊥) → IsOwned n k part
     by (inl same) =
         let here : slice_get after j ≡ Some part =
         subst (λ m. slice_get after m ≡ Some part) same e in
         let is : p.more ≡ part = (let f = p.is in cc) in
-        subst (λ m. IsPart n m part) (sym same)
-        (subst (IsPart n j) is (part-put n j table p.part p.more (h j p.part p.was) owned new p.put))
+        subst (λ m. IsOwned n m part) (sym same)
+        (subst (IsOwned n j) is
+        (part-put n j table p.part p.more (h j p.part p.was) owned new p.put))
     by (inr other) = h k part (sym (p.others k other) ∙ e)

@@ -15,7 +15,7 @@ use Rattle.mb_walk.proofs.OwnedParts.{In-part, distinct-parts, part-In}
 use Rattle.mb_walk.specs.Owned.{owner_of}
 use Rattle.mb_walk.specs.declared.dealer.Dealer.{Dealer}
 use Rattle.mb_walk.specs.declared.owner.Owner.{Owner}
-use Rattle.mb_walk.specs.loops.Piles.{AreDealt, AreParts, ArePiles, IsDealt, IsDealtBy, IsPart, joined, kept, seen_by}
+use Rattle.mb_walk.specs.loops.Piles.{AreDealt, AreOwned, ArePiles, IsDealt, IsDealtBy, IsOwned, joined, kept, seen_by}
 
 -- two pairs of lists, joined part by part
 crossed : (a b c d : Ring) → IsPermutation ((a ++ b) ++ (c ++ d)) ((a ++ c) ++ (b ++ d))
@@ -91,7 +91,7 @@ some-dealt n dealers piles v h =
 
 module _ (n : ℕ) (dealers : List Dealer) (old new : List Owner) (some : 0 < n)
     (before : length old ≡ n) (after : length new ≡ n) (piles : ArePiles n dealers)
-    (parts : AreParts n (kept old))
+    (parts : AreOwned n (kept old))
     (each : (i : ℕ) (d : Owner) → i < length old →
     FindsMore (IsDealt dealers i) (get_or old i d).visited (get_or new i d).visited []
     (get_or new i d).next.items)
@@ -106,15 +106,15 @@ module _ (n : ℕ) (dealers : List Dealer) (old new : List Owner) (some : 0 < n)
         (sym f.listed) f.finds
 
     -- what it kept before
-    part-at : (i : ℕ) (d : Owner) → i < length old → IsPart n i (get_or old i d).visited
+    part-at : (i : ℕ) (d : Owner) → i < length old → IsOwned n i (get_or old i d).visited
     part-at i d l =
         let there = some_at old i l in
         let o : Owner = there.0 in
-        subst (λ (x : Owner). IsPart n i x.visited) (sym (get_or_from_slice_get old i o d there.1))
+        subst (λ (x : Owner). IsOwned n i x.visited) (sym (get_or_from_slice_get old i o d there.1))
         (parts i o.visited (kept-at old i o there.1))
 
     -- its list is a part
-    list-part : (i : ℕ) (d : Owner) → i < length old → IsPart n i (get_or new i d).next.items
+    list-part : (i : ℕ) (d : Owner) → i < length old → IsOwned n i (get_or new i d).next.items
     list-part i d l =
         let f = finds-at i d l in
         record {
@@ -123,17 +123,17 @@ module _ (n : ℕ) (dealers : List Dealer) (old new : List Owner) (some : 0 < n)
         }
 
     -- the lists are parts
-    lists-parts : AreParts n (joined new)
+    lists-parts : AreOwned n (joined new)
     lists-parts i list e =
         let r = at-joined new i list e in
         let o : Owner = r.0 in
         let l : i < length new = place-within new i o r.1 in
-        subst (IsPart n i) (sym r.2)
-        (subst (λ (x : Owner). IsPart n i x.next.items) (get_or_from_slice_get new i o o r.1)
+        subst (IsOwned n i) (sym r.2)
+        (subst (λ (x : Owner). IsOwned n i x.next.items) (get_or_from_slice_get new i o o r.1)
         (list-part i o (omega arith)))
 
     -- what the owners keep afterwards are parts
-    pub kept-parts : AreParts n (kept new)
+    pub kept-parts : AreOwned n (kept new)
     kept-parts i part e =
         let r = at-kept new i part e in
         let o : Owner = r.0 in
@@ -144,7 +144,7 @@ module _ (n : ℕ) (dealers : List Dealer) (old new : List Owner) (some : 0 < n)
         let is = list-part i o m in
         let u : Ring = (get_or old i o).visited in
         let w : Ring = (get_or new i o).next.items in
-        let grown : IsPart n i (get_or new i o).visited = record {
+        let grown : IsOwned n i (get_or new i o).visited = record {
           once =
               distinct-permutation (u ++ w) (get_or new i o).visited f.visited
               (distinct-append u w was.once is.once (λ v a b. f.new v b a));
@@ -153,8 +153,8 @@ module _ (n : ℕ) (dealers : List Dealer) (old new : List Owner) (some : 0 < n)
               (λ b. is.owned v b)
               (In-cases v u w (permutation-In (u ++ w) (get_or new i o).visited v f.visited k));
         } in
-        subst (IsPart n i) (sym r.2)
-        (subst (λ (x : Owner). IsPart n i x.visited) (get_or_from_slice_get new i o o r.1) grown)
+        subst (IsOwned n i) (sym r.2)
+        (subst (λ (x : Owner). IsOwned n i x.visited) (get_or_from_slice_get new i o o r.1) grown)
 
     -- a listed table
     listed-at : (v : List ℕ) → In v (tables_of (joined new)) →

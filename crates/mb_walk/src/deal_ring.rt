@@ -26,7 +26,7 @@ ghost use Rattle.mb_tables.specs.Step.{IsNear};
 ghost use Rattle.mb_walk.specs.declared.dealer.Dealer.{Dealer};
 ghost use Rattle.mb_walk.specs.loops.Piles.{
   AreDealt,
-  AreParts,
+  AreOwned,
   HasDealt,
   IsDealer,
   IsIdle,
@@ -93,7 +93,7 @@ fn work<G: Gate>(
     number: usize,
     dealer: &mut Dealer,
 )
-    requires parts { AreParts (length owners.now) (kept owners.now) }
+    requires parts { AreOwned (length owners.now) (kept owners.now) }
     requires some { 1 ≤ length owners.now }
     requires small { room < 2 ^ 32 }
     requires widths { (u : List ℕ) → In u ring.now → length u ≡ moves.now.width }
@@ -134,7 +134,7 @@ fn lend<R: Threads + Sync, G: Gate + Sync>(
     gate: &G,
     dealers: &mut [Dealer],
 )
-    requires parts { AreParts (length owners.now) (kept owners.now) }
+    requires parts { AreOwned (length owners.now) (kept owners.now) }
     requires some { 1 ≤ length owners.now }
     requires small { room < 2 ^ 32 }
     requires widths { (u : List ℕ) → In u ring.now → length u ≡ moves.now.width }
@@ -190,7 +190,7 @@ pub fn deal_ring<R: Threads + Sync, G: Gate + Sync>(
     limit: u32,
     gate: &G,
 ) -> Result<Vec<Dealer>, WalkFault>
-    requires parts { AreParts (length owners.now) (kept owners.now) }
+    requires parts { AreOwned (length owners.now) (kept owners.now) }
     requires some { 1 ≤ length owners.now }
     requires few { length owners.now ≤ 64 }
     requires room { limit ≤ length (seen_by owners.now) + room }

@@ -17,7 +17,15 @@ ghost use Rattle.std.specs.Prelude.{
 };
 ghost use Rattle.mb_tables.specs.Lists.{In};
 ghost use Rattle.mb_walk.specs.Owned.{owner_of};
-ghost use Rattle.mb_walk.specs.loops.Piles.{AreParts, Deals, IsDealer, IsPut, dealt_by, kept, seen_by};
+ghost use Rattle.mb_walk.specs.loops.Piles.{
+  AreOwned,
+  Deals,
+  IsDealer,
+  IsPut,
+  dealt_by,
+  kept,
+  seen_by,
+};
 
 use crate::owner::{Owner, owner_of};
 use mb_rings::Visited;
@@ -45,10 +53,10 @@ fn put(piles: &mut Vec<Visited>, pile: usize, table: &Table) -> Result<(), OutOf
     piles[pile].insert(copy)
 }
 
-/// Deals a table, where no owner keeps it and no pile has it. More than one table beyond those there
-/// is room for are not dealt.
+/// Deals a table, where no owner keeps it and no pile has it. More than one table beyond those
+/// there is room for are not dealt.
 pub fn deal(owners: &[Owner], table: &Table, room: usize, dealer: &mut Dealer)
-    requires parts { AreParts (length owners.now) (kept owners.now) }
+    requires parts { AreOwned (length owners.now) (kept owners.now) }
     requires some { 1 ≤ length owners.now }
     requires small { room < 2 ^ 32 }
     requires ready { length dealer.old.piles.items ≡ length owners.now }

@@ -3,14 +3,15 @@
 ghost use Rattle.std.specs.Prelude.{◌+◌, ◌<◌, ◌^◌, ◌≡◌, ◌≤◌, List, length, ℕ};
 ghost use Rattle.mb_tables.specs.Lists.{In};
 ghost use Rattle.mb_tables.specs.Step.{IsNear, Moved, OneApart};
-ghost use Rattle.mb_walk.specs.loops.Piles.{AreParts, Deals, IsDealer, kept, seen_by};
+ghost use Rattle.mb_walk.specs.loops.Piles.{AreOwned, Deals, IsDealer, kept, seen_by};
 
 use crate::dealer::{Dealer, deal};
 use crate::owner::Owner;
 use mb_outside::Gate;
 use mb_tables::{Move, Moves, Sign, Table};
 
-/// Deals what the move makes of the table, where this is a table. The table is moved and moved back.
+/// Deals what the move makes of the table, where this is a table. The table is moved and moved
+/// back.
 #[inline(always)]
 fn deal_step(
     owners: &[Owner],
@@ -20,7 +21,7 @@ fn deal_step(
     room: usize,
     dealer: &mut Dealer,
 )
-    requires parts { AreParts (length owners.now) (kept owners.now) }
+    requires parts { AreOwned (length owners.now) (kept owners.now) }
     requires some { 1 ≤ length owners.now }
     requires small { room < 2 ^ 32 }
     requires width { length table.old ≡ length z.now }
@@ -41,7 +42,7 @@ fn deal_step(
 
 /// Deals the tables one step from a table. The table is moved and moved back.
 fn deal_steps(owners: &[Owner], table: &mut Table, moves: &Moves, room: usize, dealer: &mut Dealer)
-    requires parts { AreParts (length owners.now) (kept owners.now) }
+    requires parts { AreOwned (length owners.now) (kept owners.now) }
     requires some { 1 ≤ length owners.now }
     requires small { room < 2 ^ 32 }
     requires width { length table.old ≡ moves.now.width }
@@ -70,7 +71,7 @@ fn deal_table<G: Gate>(
     gate: &G,
     dealer: &mut Dealer,
 )
-    requires parts { AreParts (length owners.now) (kept owners.now) }
+    requires parts { AreOwned (length owners.now) (kept owners.now) }
     requires some { 1 ≤ length owners.now }
     requires small { room < 2 ^ 32 }
     requires width { length table.now ≡ moves.now.width }
@@ -102,7 +103,7 @@ pub fn deal_share<G: Gate>(
     gate: &G,
     dealer: &mut Dealer,
 )
-    requires parts { AreParts (length owners.now) (kept owners.now) }
+    requires parts { AreOwned (length owners.now) (kept owners.now) }
     requires some { 1 ≤ length owners.now }
     requires small { room < 2 ^ 32 }
     requires widths { (u : List ℕ) → In u share.now → length u ≡ moves.now.width }

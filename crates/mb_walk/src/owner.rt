@@ -3,7 +3,7 @@
 ghost use Rattle.std.specs.List.Sorted.{IsPermutation};
 ghost use Rattle.std.specs.Prelude.{◌<◌, ◌∷◌, ◌≡◌, ◌≤◌, IfOk, [], length};
 ghost use Rattle.mb_walk.specs.Owned.{mixed, owner_of};
-ghost use Rattle.mb_walk.specs.loops.Piles.{AreParts, kept, seen_by};
+ghost use Rattle.mb_walk.specs.loops.Piles.{AreOwned, kept, seen_by};
 
 use mb_rings::Visited;
 use mb_tables::{OutOfMemory, Table};
@@ -67,7 +67,7 @@ fn first_of(
 pub fn open_owners(alloc: Global, start: &Table, owners: usize) -> Result<Vec<Owner>, OutOfMemory>
     requires some { 1 ≤ owners }
     ensures count { IfOk result (λ list. length list.items ≡ owners) }
-    ensures parts { IfOk result (λ list. AreParts owners (kept list.items)) }
+    ensures parts { IfOk result (λ list. AreOwned owners (kept list.items)) }
     ensures seen { IfOk result (λ list. IsPermutation (start.now ∷ []) (seen_by list.items)) }
 {
     let mut list = Vec::new(alloc);

@@ -24,7 +24,7 @@ ghost use Rattle.mb_tables.specs.Lists.{In};
 ghost use Rattle.mb_tables.specs.Step.{IsNear};
 ghost use Rattle.mb_walk.specs.declared.owner.Owner.{Owner};
 ghost use Rattle.mb_walk.specs.loops.Piles.{
-  AreParts,
+  AreOwned,
   ArePiles,
   IsDealt,
   IsDealtBy,
@@ -94,10 +94,10 @@ fn take_over<R: Threads + Sync>(
 ) -> Result<Vec<Table>, OutOfMemory>
     requires some { 1 ≤ threads }
     requires owners { 1 ≤ length owners.old }
-    requires parts { AreParts (length owners.old) (kept owners.old) }
+    requires parts { AreOwned (length owners.old) (kept owners.old) }
     requires piles { ArePiles (length owners.old) dealers.now }
     ensures count { length owners.new ≡ length owners.old }
-    ensures parts { OnOk result (AreParts (length owners.old) (kept owners.new)) }
+    ensures parts { OnOk result (AreOwned (length owners.old) (kept owners.new)) }
     ensures found { IfOk result (λ next. Finds (IsDealtBy dealers.now)
         (seen_by owners.old) (seen_by owners.new) next.items) }
 {
@@ -112,8 +112,8 @@ fn take_over<R: Threads + Sync>(
 /// The tables that are one step from a ring and new, in ascending order, by as many workers as
 /// there are owners, who keep the tables seen so far.
 ///
-/// Each worker has a share of the ring. Before it expands a table it passes the gate, with its
-/// number and the number of tables that stand before this one in all rings.
+/// Each worker has a share of the ring. Before it expands a table it passes the gate, with the
+/// number of the share, from 0, and the number of tables that stand before this one in all rings.
 pub fn next_by_piles<R: Threads + Sync, G: Gate + Sync>(
     rt: &R,
     alloc: Global,
@@ -131,13 +131,13 @@ pub fn next_by_piles<R: Threads + Sync, G: Gate + Sync>(
     requires small { limit ≤ most_tables }
     requires some { 1 ≤ length owners.old }
     requires few { length owners.old ≤ 64 }
-    requires parts { AreParts (length owners.old) (kept owners.old) }
+    requires parts { AreOwned (length owners.old) (kept owners.old) }
     ensures found { IfOk result (λ next. Finds (IsNear moves.now.rows ring.now)
         (seen_by owners.old) (seen_by owners.new) next.items) }
     ensures ascending { IfOk result (λ next. Ascends next.items) }
     ensures room { IfOk result (λ next. length next.items + seen ≤ limit) }
     ensures count { length owners.new ≡ length owners.old }
-    ensures parts { OnOk result (AreParts (length owners.old) (kept owners.new)) }
+    ensures parts { OnOk result (AreOwned (length owners.old) (kept owners.new)) }
     ensures refused { IfErr result (IsSearchFault (IsNear moves.now.rows ring.now)
         limit (seen_by owners.old)) }
 {

@@ -11,7 +11,7 @@ ghost use Rattle.mb_tables.specs.Answers.{Gives};
 
 use crate::breadth_first::walk_alone;
 use crate::owned_walk::walk_by_tables;
-use mb_claims::{MOST_WORDS, Shards};
+use mb_claims::{MOST_WORDS, Shards, USUAL_SHARDS};
 use mb_keyed::{key_total, walk_on, words_for};
 use mb_matrix::{Keys, Matrix, Peel};
 use mb_outside::Gate;
@@ -20,14 +20,11 @@ use mb_tables::{Moves, OutOfMemory, Table};
 use std::alloc::Global;
 use std::thread::Threads;
 
-/// How many shards a walk begins with.
-const FIRST_SHARDS: u32 = 13;
-
 /// The tables for which a walk has words at its beginning, where its limit is larger.
 const FORESEEN: u32 = 1_000_000;
 
-/// How many shards a walk begins with, and how many words each has: in all three for every two tables
-/// of the limit, or of a million where it is larger.
+/// How many shards a walk begins with, and how many words each has: in all three for every two
+/// tables of the limit, or of a million where it is larger.
 ///
 /// There are some shards, and a prime number of them, since one step after another changes a key by
 /// little: then neighbouring keys lie apart. Where there are few keys, each is its own place in one
@@ -37,11 +34,11 @@ fn first_shards(limit: u32, keys: u64) -> (u32, u32)
     ensures words { (1 ≤ result.1) × (result.1 ≤ most_words) }
 {
     let total = u64::from(limit.min(FORESEEN)) * 3 / 2;
-    let words = words_for(total / u64::from(FIRST_SHARDS));
-    if keys < u64::from(MOST_WORDS.min(FIRST_SHARDS * words)) {
+    let words = words_for(total / u64::from(USUAL_SHARDS));
+    if keys < u64::from(MOST_WORDS.min(USUAL_SHARDS * words)) {
         (1, keys as u32 + 1)
     } else {
-        (FIRST_SHARDS, words)
+        (USUAL_SHARDS, words)
     }
 }
 
@@ -99,8 +96,9 @@ fn walk_by_keys<R: Threads + Sync, G: Gate + Sync>(
 ///
 /// The start and the moves have the matrix's cells, each move keeps all margins, and each margin of
 /// the start fits 32 bits. The limit is 1 to 2,000,000 tables, and there are 1 to 64 workers.
-/// Before a worker expands a table it passes the gate, with its number and the number of tables
-/// that stand before this one in all rings. The rings are the same for any number of workers.
+/// Before a table is expanded the gate is passed, with the number of its share of the ring, from 0,
+/// and the number of tables that stand before this one in all rings. The rings are the same for any
+/// number of workers.
 ///
 /// Where the tables of the fiber have keys of 64 bits, the workers claim them (`walk_on`), and the
 /// rings have the root of these claims. Where they have none, one worker keeps the tables that were

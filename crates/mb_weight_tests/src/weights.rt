@@ -54,7 +54,8 @@ fn last_row(groups: &[u32]) -> u32 {
     groups.iter().copied().max().unwrap_or(0).min(60) + 2
 }
 
-/// The design matrix of some groups: a row of zeros, and a row for each group with a 1 at its cells.
+/// The design matrix of some groups: a row of zeros, and a row for each group with a 1 at its
+/// cells.
 fn matrix_of(alloc: Global, groups: &str) -> Result<Matrix, Fail> {
     let groups = numbers_of(alloc, groups)?;
     let rows = last_row(groups.as_slice());

@@ -37,7 +37,8 @@ factorial_above zero = let e = factorial-zero in omega arith
 factorial_above (suc n) =
     let e = factorial-suc n in
     let f = factorial_above n in
-    let g : 1 * 1 ≤ suc n * factorial n = mul-le-mul {n₁ = 1} {m₁ = 1} (omega arith) f in omega arith
+    let g : 1 * 1 ≤ suc n * factorial n = mul-le-mul {n₁ = 1} {m₁ = 1} (omega arith) f in
+    omega arith
 
 -- no binomial coefficient is 0
 pub ways_above : (n k : ℕ) → 1 ≤ ways n k

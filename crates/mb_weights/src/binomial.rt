@@ -1,6 +1,6 @@
 //! Binomial coefficients within 128 bits.
 
-ghost use Rattle.std.specs.Prelude.{◌+◌, ◌*◌, ◌/◌, ◌<◌, ◌^◌};
+ghost use Rattle.std.specs.Prelude.{◌+◌, ◌*◌, ◌/◌, ◌<◌, ◌≤◌, ◌^◌};
 ghost use Rattle.std.specs.Option.{SomeIff};
 ghost use Rattle.mb_weights.specs.Binomial.{ways};
 ghost use Rattle.mb_weights.specs.loops.SmallWays.{AreSmallWays};
@@ -47,7 +47,8 @@ fn scaled(value: u128, top: u64, by: u64) -> Option<u128>
 /// thing, so the first that passes 128 bits ends the count; and they at least double, so that
 /// comes within 128 things.
 fn ways_by_steps(many: u64, few: u64) -> Option<u128>
-    requires { many + few < 2 ^ 64 }
+    requires chosen { few ≤ many }
+    requires things { many + few < 2 ^ 64 }
     ensures { SomeIff result (ways many few < 2 ^ 128) (ways many few) }
 {
     let mut found = 1;

@@ -86,8 +86,8 @@ fn stores_its_tables<R: Threads + Sync>(
     Ok(have_sizes(alloc, &rings, sizes)? && are_stored(alloc, &shards, &mut root, matrix, &rings)?)
 }
 
-// Worked: the diagonal of a 4 x 4 table. The shard begins with room for one key, so it is found full
-// and grows again and again.
+// Worked: the diagonal of a 4 x 4 table. The shard begins with room for one key, so it is found
+// full and grows again and again.
 #[test]
 fn one_word_grows_to_a_fiber(rt: HostRuntime) -> Result<(), Fail> {
     let (rt, alloc) = (&rt, rt.alloc());

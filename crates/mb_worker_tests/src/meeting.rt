@@ -14,8 +14,8 @@ use std::sync::atomic::Ordering::SeqCst;
 use std::test::Fail;
 use std::thread::Threads;
 
-/// A gate where each of two workers waits for the other one, so many turns at most. Items before the
-/// first ring that both have a share of pass at once.
+/// A gate where each of two workers waits for the other one, so many turns at most. Items before
+/// the first ring that both have a share of pass at once.
 #[derive(Drop)]
 struct Meeting {
     /// The number of such items.
@@ -92,8 +92,8 @@ fn marks_from<R: Threads + Sync>(
     Ok(gate.marks())
 }
 
-/// The marks of the walk from the diagonal of a 4 x 4 table, whose fiber has keys. Its ring 1 has six
-/// tables.
+/// The marks of the walk from the diagonal of a 4 x 4 table, whose fiber has keys. Its ring 1 has
+/// six tables.
 fn marks_of<R: Threads + Sync>(
     rt: &R,
     alloc: Global,
@@ -106,8 +106,8 @@ fn marks_of<R: Threads + Sync>(
     marks_from(rt, alloc, &matrix, &start, DIAGONAL_RINGS, &gate, workers)
 }
 
-/// The marks of the walk from 2 in the first of 42 cells, whose fiber has no keys. Its ring 2 has 41
-/// tables.
+/// The marks of the walk from 2 in the first of 42 cells, whose fiber has no keys. Its ring 2 has
+/// 41 tables.
 fn unkeyed_marks<R: Threads + Sync>(
     rt: &R,
     alloc: Global,

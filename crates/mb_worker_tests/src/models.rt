@@ -17,10 +17,10 @@ pub(crate) const DIAGONAL: &str = "3 0 0 0 0 3 0 0 0 0 3 0 0 0 0 3";
 /// How many tables stand in each ring of it.
 pub(crate) const DIAGONAL_RINGS: &str = "1 6 29 110 296 550 612 332 66 6";
 
-/// How many tables stand in each ring of 2 in the first of 42 cells, where only the total is kept and a
-/// move takes 1 from the last cell or adds it there: the pair of cells (first, first), then (first,
-/// last), then (last, last) and 40 with the first cell, 40 others with the last cell, and 820 pairs of
-/// the other cells. 903 tables have keys past 64 bits, 3 to the power of 41.
+/// How many tables stand in each ring of 2 in the first of 42 cells, where only the total is kept
+/// and a move takes 1 from the last cell or adds it there: the pair of cells (first, first), then
+/// (first, last), then (last, last) and 40 with the first cell, 40 others with the last cell, and
+/// 820 pairs of the other cells. 903 tables have keys past 64 bits, 3 to the power of 41.
 pub(crate) const PAIR_RINGS: &str = "1 1 41 40 820";
 
 /// The design matrix of one row of ones, so many.

@@ -125,9 +125,9 @@ fn the_diagonal(rt: HostRuntime) -> Result<(), Fail> {
     Ok(())
 }
 
-// Worked: only the total is kept, so there are C(20, 3) tables, which together weigh 18^3, and 18 of
-// them weigh 1. A move takes 1 from the last cell or adds it there: each of the three is one step away
-// in the last cell and two in another. The keys are past 32 bits, since 4^17 is 2^34.
+// Worked: only the total is kept, so there are C(20, 3) tables, which together weigh 18^3, and 18
+// of them weigh 1. A move takes 1 from the last cell or adds it there: each of the three is one
+// step away in the last cell and two in another. The keys are past 32 bits, since 4^17 is 2^34.
 #[test]
 fn eighteen_cells(rt: HostRuntime) -> Result<(), Fail> {
     let (rt, alloc) = (&rt, rt.alloc());

@@ -19,7 +19,7 @@ pub record AreStarts (sizes starts : List ℕ) : Type 0 where
 
 -- a table of words without slots, whose rule has these sizes, as many words as they add up to, and
 -- the first word of each shard
-pub record AreParts (table : TableId) (ruled sizes starts : List ℕ) : Type 0 where
+pub record AreShardParts (table : TableId) (ruled sizes starts : List ℕ) : Type 0 where
   pub no_slots : table.slots ≡ 0
   pub same : ruled ≡ sizes
   pub total : table.words ≡ sum sizes

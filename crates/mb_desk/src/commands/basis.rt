@@ -1,6 +1,11 @@
 //! `basis NAME MODEL [--order O] [--pairs K]`.
 ghost use Rattle.std.specs.Prelude.{◌≡◌, IfOk};
-ghost use Rattle.mb_desk.specs.BasisCommand.{basis_plan, certificate_lines, completed_named, completion_lines};
+ghost use Rattle.mb_desk.specs.BasisCommand.{
+  basis_plan,
+  certificate_lines,
+  completed_named,
+  completion_lines,
+};
 ghost use Rattle.mb_desk.specs.Decision.{DoesRows};
 ghost use Rattle.mb_desk.specs.Needs.{RowsAlone, Touches};
 ghost use Rattle.mb_desk.specs.SoundLaws.{CompletedIsSaid};

@@ -1,7 +1,14 @@
 //! `check CERTIFICATE`.
 ghost use Rattle.std.specs.Prelude.{◌≡◌, IfOk, false};
 ghost use Rattle.mb_certificate.specs.Valid.{IsValid};
-ghost use Rattle.mb_desk.specs.CheckCommand.{certified, check_plan, checked, found, joins_line, judged};
+ghost use Rattle.mb_desk.specs.CheckCommand.{
+  certified,
+  check_plan,
+  checked,
+  found,
+  joins_line,
+  judged,
+};
 ghost use Rattle.mb_desk.specs.Decision.{DoesFiles, Follows, blames};
 ghost use Rattle.mb_desk.specs.Needs.{FilesAlone, Touches};
 

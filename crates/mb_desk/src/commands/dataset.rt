@@ -1,7 +1,13 @@
 //! `dataset NAME FILE`.
 ghost use Rattle.std.specs.Prelude.{◌≡◌, IfOk, false};
 ghost use Rattle.mb_data.specs.Written.{written};
-ghost use Rattle.mb_desk.specs.DatasetCommand.{cells_line, data_stop, dataset_file, dataset_plan, dataset_text};
+ghost use Rattle.mb_desk.specs.DatasetCommand.{
+  cells_line,
+  data_stop,
+  dataset_file,
+  dataset_plan,
+  dataset_text,
+};
 ghost use Rattle.mb_desk.specs.Decision.{Does, DoesFiles, Follows, blames, scene};
 
 use crate::plans::{Plan, Stop};

@@ -1,11 +1,8 @@
 //! `export WHAT NAME FILE`.
-ghost use Rattle.std.specs.Fmt.{decimal};
-ghost use Rattle.std.specs.List.{flat_map};
-ghost use Rattle.std.specs.Prelude.{◌≡◌, ◌++◌, IfOk, OnOk};
-ghost use Rattle.mb_certificate.specs.Written.{row_lines};
+ghost use Rattle.std.specs.Prelude.{◌≡◌, IfOk};
 ghost use Rattle.mb_data.specs.Written as datasets;
 ghost use Rattle.mb_desk.specs.Decision.{Does, DoesRows, scene};
-ghost use Rattle.mb_desk.specs.ExportCommand.{certificate_part, export_plan, exported, exported_basis, matrix_file, wrote_line};
+ghost use Rattle.mb_desk.specs.ExportCommand.{certificate_part, export_plan, exported, exported_basis, wrote_line};
 ghost use Rattle.mb_text.specs.Lines.{line};
 
 use crate::parts::Part;
@@ -14,33 +11,11 @@ use crate::records::look_stop;
 use crate::texts::{NameWord, Word};
 use mb_certificate::{Certificate, rule_table, write};
 use mb_data::{Dataset, write_dataset};
-use mb_matrix::Matrix;
-use mb_moves::write_moves;
+use mb_moves::{write_design, write_moves};
 use mb_outside::{Files, Keeper};
 use mb_registry::{Body, basis, dataset, model};
 use mb_tables::OutOfMemory;
-use mb_text::push_line;
 use std::alloc::{AllocError, Global};
-
-/// Puts the rows of a matrix at the end of a text, each a line.
-fn push_rows(out: &mut Vec<u8>, matrix: &Matrix) -> Result<(), OutOfMemory>
-    ensures { OnOk result (out.new.items ≡ out.old.items ++ flat_map line (row_lines matrix.now)) }
-{
-    for row in 0..matrix.rows() {
-        push_line(out, matrix.row(row))?;
-    }
-    Ok(())
-}
-
-/// The matrix file of a design matrix.
-fn matrix_file(alloc: Global, matrix: &Matrix) -> Result<Body, OutOfMemory>
-    ensures { IfOk result (λ text. text ≡ matrix_file matrix.now) }
-{
-    let mut out = Vec::new(alloc);
-    push_line(&mut out, &[matrix.rows(), matrix.cols()])?;
-    push_rows(&mut out, matrix)?;
-    Ok(Body::of(out))
-}
 
 /// What is written of a dataset.
 fn dataset_file(alloc: Global, dataset: &Dataset) -> Result<Body, OutOfMemory>
@@ -92,7 +67,7 @@ fn export_matrix<K: Keeper>(
         result (exported Part.Matrix name.now) }
 {
     match model(alloc, keeper, name.as_str()) {
-        Ok((_, model)) => Ok(matrix_file(alloc, model.matrix())?),
+        Ok((_, model)) => Ok(Body::of(write_design(alloc, model.matrix())?)),
         Err(fault) => Err(look_stop(fault)),
     }
 }

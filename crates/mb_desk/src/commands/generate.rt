@@ -61,7 +61,7 @@ fn seed_table(alloc: Global, seed: u32) -> Result<Table, AllocError>
 }
 
 /// The certificate of the design matrix, completed by grevlex.
-fn certify(alloc: Global, matrix: &Matrix) -> Result<Certificate, Stop>
+fn square_certificate(alloc: Global, matrix: &Matrix) -> Result<Certificate, Stop>
     requires { matrix.now ≡ square_matrix }
     ensures finished { Gives stop_cause (λ c. tt) result (finished square_outcome) }
     ensures matrix { IfOk result (λ c. c.matrix ≡ square_matrix) }
@@ -185,7 +185,7 @@ pub fn plan<'a, R: Threads + Sync, G: Gate + Sync>(
 {
     let table = seed_table(alloc, seed)?;
     let matrix = square_matrix(alloc)?;
-    let certificate = certify(alloc, &matrix)?;
+    let certificate = square_certificate(alloc, &matrix)?;
     let figures = test(rt, alloc, &certificate, &table, workers, gate)?;
     let Ok(answer) = lines(alloc, &table, &figures) else {
         return Err(Stop::Memory);

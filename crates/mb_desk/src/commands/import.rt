@@ -1,7 +1,15 @@
 //! `import NAME BASIS MOVES [--limit L]`.
 ghost use Rattle.std.specs.Prelude.{◌≡◌, ◌≤◌, IfOk, false};
 ghost use Rattle.mb_certificate.specs.Valid.{IsValid};
-ghost use Rattle.mb_desk.specs.Decision.{Does, DoesFiles, DoesRows, Follows, InWorld, blames, scene};
+ghost use Rattle.mb_desk.specs.Decision.{
+  Does,
+  DoesFiles,
+  DoesRows,
+  Follows,
+  InWorld,
+  blames,
+  scene,
+};
 ghost use Rattle.mb_desk.specs.ImportCommand.{
   beside_of,
   beside_stop,

@@ -2,7 +2,18 @@
 ghost use Rattle.std.specs.Option.{option_map};
 ghost use Rattle.std.specs.Prelude.{◌≡◌, IfOk, false};
 ghost use Rattle.mb_desk.specs.Decision.{Does, DoesFiles, DoesRows, Follows, blames, scene};
-ghost use Rattle.mb_desk.specs.ModelCommand.{kind_stop, margins_line, measure_stop, model_added, model_kept, model_plan, model_read, model_text, model_texts, second_text};
+ghost use Rattle.mb_desk.specs.ModelCommand.{
+  kind_stop,
+  margins_line,
+  measure_stop,
+  model_added,
+  model_kept,
+  model_plan,
+  model_read,
+  model_text,
+  model_texts,
+  second_text,
+};
 ghost use Rattle.mb_kinds.specs.Record.{written_record};
 ghost use Rattle.mb_registry.specs.Bodies.{model_record};
 

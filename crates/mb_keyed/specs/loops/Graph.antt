@@ -1,7 +1,7 @@
 -- The graph of a fiber under moves, in which two tables are joined where a move takes one to the
 -- other (Diaconis and Sturmfels 1998), by the keys of its tables.
 use Rattle.std.specs.Prelude.{List, ℕ}
-use Rattle.mb_keyed.specs.loops.Keyed.{Fiber, digits_in}
+use Rattle.mb_keyed.specs.loops.Keyed.{FiberAt, digits_in}
 use Rattle.mb_keyed.specs.loops.Worked.{HasKeyedSteps}
 use Rattle.mb_rings.specs.Claimed.{IsKeyOf}
 use Rattle.mb_rings.specs.Ring.{Ring}
@@ -11,7 +11,7 @@ use Rattle.mb_tables.specs.Step.{IsNear}
 
 -- a fiber, and moves
 pub record Graph : Type 0 where
-  pub fiber : Fiber
+  pub fiber : FiberAt
   pub moves : Rows
 
 -- the key of a table that P holds of

@@ -1,6 +1,6 @@
 -- The keys that rounds over a ring find.
 use Rattle.std.specs.Prelude.{List, length, ℕ, ◌+◌, ◌<◌, ◌≡◌, ◌↔◌, ◌⊎◌}
-use Rattle.mb_claims.specs.Lists.{AreDistinct}
+use Rattle.mb_claims.specs.Lists.{AreDistinctKeys}
 use Rattle.mb_matrix.specs.Ascending.{Ascends}
 use Rattle.mb_matrix.specs.Key.{digits_of, key_of}
 use Rattle.mb_matrix.specs.Matrix.{Design, margins_of}
@@ -15,7 +15,7 @@ use Rattle.mb_tables.specs.Lists.{In}
 
 -- distinct sought keys that aren't known
 pub record AreNew (IsSought : ℕ → Type 0) (known found : List ℕ) : Type 0 where
-  pub once : AreDistinct found
+  pub once : AreDistinctKeys found
   pub new : (key : ℕ) → In key found → In key known → ⊥
   pub sought : (key : ℕ) → In key found → IsSought key
 
@@ -32,16 +32,16 @@ IsKeyFault IsSought known room limit (TooLarge seen) =
 IsKeyFault IsSought known room limit OutOfMemory = Unit {0}
 
 -- a fiber: a matrix, and the margins of its tables
-pub record Fiber : Type 0 where
+pub record FiberAt : Type 0 where
   pub matrix : Design
   pub margins : List ℕ
 
 -- the fiber of a start
-abbrev pub fiber_at : Design → List ℕ → Fiber
+abbrev pub fiber_at : Design → List ℕ → FiberAt
 fiber_at matrix start = record { matrix = matrix; margins = margins_of matrix start }
 
 -- the digits of a fiber's keys
-abbrev pub digits_in : Fiber → List Digit
+abbrev pub digits_in : FiberAt → List Digit
 digits_in fiber = digits_of fiber.matrix fiber.margins
 
 -- what the tables of a fiber are read back from their keys with
@@ -52,7 +52,7 @@ pub record IsKept (matrix : Design) (steps : List Peeled) (margins : List ℕ) (
   pub digits : keys ≡ digits_of matrix margins
 
 -- a table of a fiber, whose counts fit 32 bits
-pub record IsOfFiber (fiber : Fiber) (v : List ℕ) : Type 0 where
+pub record IsOfFiber (fiber : FiberAt) (v : List ℕ) : Type 0 where
   pub cells : length v ≡ length fiber.matrix.columns
   pub same : margins_of fiber.matrix v ≡ fiber.margins
   pub fits : AreCounts v
@@ -64,6 +64,6 @@ pub record FindsKeyed (digits : List Digit) (IsSought : List ℕ → Type 0) (be
   pub sought : (v : List ℕ) → In v next → IsSought v
   pub new : (v : List ℕ) → In v next → In (key_of digits v) before → ⊥
   pub ascends : Ascends next
-  pub once : AreDistinct after
+  pub once : AreDistinctKeys after
   pub keys : (key : ℕ) → In key after ↔ (In key before ⊎ IsKeyOf digits (λ v. In v next) key)
   pub all : (v : List ℕ) → IsSought v → In (key_of digits v) after

@@ -33,8 +33,8 @@ pub record AreNeeds (cells : ℕ) (sign : Sign) (move : List ℤ) (needs : List 
   pub wanted : (u v : List ℕ) → length u ≡ cells → Moved sign u move v → Has u needs
 
 -- the needs from one place on and before another
-abbrev pub needs_from : List Need → ℕ → ℕ → List Need
-needs_from needs from to = take (to - from) (drop from needs)
+abbrev pub needs_between : List Need → ℕ → ℕ → List Need
+needs_between needs from to = take (to - from) (drop from needs)
 
 -- what a move adds to a key, and where its needs stand: first those of its being added
 pub record IsStepOf
@@ -44,8 +44,8 @@ pub record IsStepOf
   pub added : step.first ≤ step.middle
   pub taken : step.middle ≤ step.end
   pub within : step.end ≤ length needs
-  pub plus : AreNeeds cells Plus move (needs_from needs step.first step.middle)
-  pub minus : AreNeeds cells Minus move (needs_from needs step.middle step.end)
+  pub plus : AreNeeds cells Plus move (needs_between needs step.first step.middle)
+  pub minus : AreNeeds cells Minus move (needs_between needs step.middle step.end)
 
 -- the steps of all moves
 pub record AreSteps

@@ -1,6 +1,6 @@
 -- A round of workers over a ring: what all of them do together.
 use Rattle.std.specs.Prelude.{All, List, false, reverse, ℕ, ℤ, ◌++◌, ◌<◌, ◌≡◌, ◌≤◌, ◌⊎◌}
-use Rattle.mb_claims.specs.Lists.{AreDistinct}
+use Rattle.mb_claims.specs.Lists.{AreDistinctKeys}
 use Rattle.mb_claims.specs.Notes.{IsNoted}
 use Rattle.mb_keyed.specs.declared.gathered.Left.{Left}
 use Rattle.mb_keyed.specs.declared.worker.Worker.{Worker}
@@ -10,7 +10,8 @@ use Rattle.mb_rings.specs.Share.{share_of}
 use Rattle.mb_tables.specs.Lists.{In}
 use Rattle.mb_tables.specs.Step.{IsNear}
 
--- of n passes, share w falls to pass i: to the pass of its number, and to pass 0 where there is none
+-- of n passes, share w falls to pass i: to the pass of its number, and to pass 0 where there is
+-- none
 abbrev pub FallsTo : ℕ → ℕ → ℕ → Type 0
 FallsTo n i w = (w ≡ i) ⊎ ((i ≡ 0) × (n ≤ w))
 
@@ -41,7 +42,7 @@ pub record IsRound (IsSought : ℕ → Type 0) (before after old new : List ℕ)
     : Type 0 where
   pub won : List ℕ
   pub gathered : after ≡ won ++ before
-  pub once : AreDistinct after
+  pub once : AreDistinctKeys after
   pub sought : (key : ℕ) → In key won → IsSought key
   pub listed : left.is_short ≡ false → new ≡ old ++ reverse won
   pub told : left.is_left ≡ false → (key : ℕ) → IsSought key → In key after

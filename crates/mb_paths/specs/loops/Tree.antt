@@ -39,8 +39,8 @@ pub record HasParent
   pub made : MovesBy moves step node.table y.table
 
 -- a tree of which so many nodes are expanded: each node's path leads to its table; those to be
--- expanded stand in the order of their paths, and no path that is found already comes after what one
--- of them leads to
+-- expanded stand in the order of their paths, and no path that is found already comes after what
+-- one of them leads to
 pub record IsTree
     (moves : List (List ℤ)) (tables : List (List ℕ)) (parents : List ℕ) (expanded : ℕ)
     : Type 0 where

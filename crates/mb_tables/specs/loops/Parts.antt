@@ -22,7 +22,7 @@ AreApart (part ∷ parts) = AllByRecursion (λ other. part.cell ≢ other.cell) 
 
 -- each part has one of the cells, no cell has two, and the entries are those of a move; the first
 -- of the parts, so many of them, are told from the others
-pub record AreParts (cells lows : ℕ) (parts : List Part) : Type 0 where
+pub record AreMoveParts (cells lows : ℕ) (parts : List Part) : Type 0 where
   pub within : All (λ part. part.cell < cells) parts
   pub apart : AreApart parts
   pub sound : AreEntries (entries_of cells parts)

@@ -12,13 +12,13 @@ use Rattle.mb_walk.specs.declared.dealer.Dealer.{Dealer}
 use Rattle.mb_walk.specs.declared.owner.Owner.{Owner}
 
 -- of n parts, the tables of part j: each stands there once, and has this owner
-pub record IsPart (n j : ℕ) (part : Ring) : Type 0 where
+pub record IsOwned (n j : ℕ) (part : Ring) : Type 0 where
   pub once : AreDistinct part
   pub owned : (v : List ℕ) → In v part → owner_of n v ≡ j
 
 -- each of these is the part of its place, among n
-abbrev pub AreParts : ℕ → List Ring → Type 0
-AreParts n parts = (j : ℕ) (part : Ring) → slice_get parts j ≡ Some part → IsPart n j part
+abbrev pub AreOwned : ℕ → List Ring → Type 0
+AreOwned n parts = (j : ℕ) (part : Ring) → slice_get parts j ≡ Some part → IsOwned n j part
 
 -- the tables that each owner keeps
 abbrev pub kept : List Owner → List Ring
@@ -48,7 +48,7 @@ pub record IsPut (j : ℕ) (table : List ℕ) (before after : List Ring) : Type 
 
 -- a worker's piles, one for each of n owners: so many tables, each once, none of which is known
 pub record IsDealer (n room : ℕ) (known : List (List ℕ)) (dealer : Dealer) : Type 0 where
-  pub parts : AreParts n dealer.piles.items
+  pub parts : AreOwned n dealer.piles.items
   pub count : dealer.dealt ≡ length (dealt_by dealer)
   pub most : dealer.dealt ≤ room + 1
   pub new : (v : List ℕ) → In v (dealt_by dealer) → In v known → ⊥
@@ -87,8 +87,8 @@ pub record IsIdle (dealer : Dealer) : Type 0 where
   pub piles : dealer.piles.items ≡ []
   pub count : dealer.dealt ≡ 0
 
--- all that a worker dealt is sought; what is sought, with counts that fit 32 bits, is known or dealt,
--- where the worker is whole
+-- all that a worker dealt is sought; what is sought, with counts that fit 32 bits, is known or
+-- dealt, where the worker is whole
 pub record HasDealt
     (room : ℕ) (known : List (List ℕ)) (IsSought : List ℕ → Type 0) (dealer : Dealer)
     : Type 0 where
@@ -106,10 +106,10 @@ pub record IsDealtBy (dealers : List Dealer) (v : List ℕ) : Type 0 where
 -- each worker dealt each table to its owner, among n
 abbrev pub ArePiles : ℕ → List Dealer → Type 0
 ArePiles n dealers = (i : ℕ) (dealer : Dealer) → slice_get dealers i ≡ Some dealer →
-    AreParts n dealer.piles.items
+    AreOwned n dealer.piles.items
 
--- the workers dealt sought tables that aren't known, each to its owner, among n; all that are sought,
--- with counts that fit 32 bits, are known or dealt
+-- the workers dealt sought tables that aren't known, each to its owner, among n; all that are
+-- sought, with counts that fit 32 bits, are known or dealt
 pub record AreDealt
     (n : ℕ) (known : List (List ℕ)) (IsSought : List ℕ → Type 0) (dealers : List Dealer)
     : Type 0 where

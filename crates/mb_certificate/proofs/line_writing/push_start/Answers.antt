@@ -7,7 +7,8 @@ pub returns : goal.returns
 returns c =
     start_written c.args.out.now.items c.push_number.new.out.items c.push_spaced.new.out.items
     c.push_spaced-2.new.out.items c.push_spaced-3.new.out.items c.push.new.self.items
-    c.as_slice-first.result.now c.as_slice-second.result.now (length c.as_slice-first.result.now) (length c.as_slice-second.result.now)
+    c.as_slice-first.result.now c.as_slice-second.result.now (length c.as_slice-first.result.now)
+    (length c.as_slice-second.result.now)
     c.args.start.now
     (c.as_slice-first.ensures.value ∙ ap (λ (s : Start). s.margin_steps) c.start.view_is)
     (c.as_slice-second.ensures.value ∙ ap (λ (s : Start). s.cell_steps) c.start.view_is)

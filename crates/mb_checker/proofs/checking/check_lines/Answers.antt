@@ -18,7 +18,8 @@ returns-in_err-check_moves c =
     let same : c.from_residual.result ≡ c.check_moves.result = search proof_rules in
     stops c.from_residual.result c.check_moves.result c.in_err-check_moves.field-0.0
     (first_fault parts) (first_from line (move_lines parts))
-    (from_rules parts (line + length parts.moves + 1)) same c.in_err-check_moves.was top c.check_moves.ensures.finds
+    (from_rules parts (line + length parts.moves + 1)) same c.in_err-check_moves.was top
+    c.check_moves.ensures.finds
 
 pub returns-in_err-check_rules : goal.returns-in_err-check_rules
 returns-in_err-check_rules c =
@@ -35,10 +36,13 @@ returns-in_err-check_rules c =
     let second = goes-on (first_fault parts) (first_from line (move_lines parts))
     (from_rules parts) (line + length parts.moves + 1) rule_line top
     c.in_ok-check_moves.ensures.finds (omega arith) in
-    let same : c.from_residual-in_err-check_rules.result ≡ c.check_rules.result = search proof_rules in
-    stops c.from_residual-in_err-check_rules.result c.check_rules.result c.in_err-check_rules.field-0.0
+    let same : c.from_residual-in_err-check_rules.result ≡ c.check_rules.result =
+    search proof_rules in
+    stops c.from_residual-in_err-check_rules.result c.check_rules.result
+    c.in_err-check_rules.field-0.0
     (first_fault parts) (first_from rule_line (rule_lines parts))
-    (from_starts parts (rule_line + length parts.rules + 1)) same c.in_err-check_rules.was second c.check_rules.ensures.finds
+    (from_starts parts (rule_line + length parts.rules + 1)) same c.in_err-check_rules.was second
+    c.check_rules.ensures.finds
 
 pub returns-in_err-check_starts : goal.returns-in_err-check_starts
 returns-in_err-check_starts c =
@@ -61,10 +65,13 @@ returns-in_err-check_starts c =
     let third = goes-on (first_fault parts) (first_from rule_line (rule_lines parts))
     (from_starts parts) (rule_line + length parts.rules + 1) start_line second
     c.in_ok-check_rules.ensures.finds (omega arith) in
-    let same : c.from_residual-in_err-check_starts.result ≡ c.check_starts.result = search proof_rules in
-    stops c.from_residual-in_err-check_starts.result c.check_starts.result c.in_err-check_starts.field-0.0
+    let same : c.from_residual-in_err-check_starts.result ≡ c.check_starts.result =
+    search proof_rules in
+    stops c.from_residual-in_err-check_starts.result c.check_starts.result
+    c.in_err-check_starts.field-0.0
     (first_fault parts) (first_from start_line (start_lines parts))
-    (from_joins parts (start_line + length parts.starts + 1)) same c.in_err-check_starts.was third c.check_starts.ensures
+    (from_joins parts (start_line + length parts.starts + 1)) same c.in_err-check_starts.was third
+    c.check_starts.ensures
 
 pub returns-in_err-check_joins : goal.returns-in_err-check_joins
 returns-in_err-check_joins c =
@@ -92,10 +99,13 @@ returns-in_err-check_joins c =
     let fourth = goes-on (first_fault parts) (first_from start_line (start_lines parts))
     (from_joins parts) (start_line + length parts.starts + 1) join_line third
     c.in_ok-check_starts.ensures (omega arith) in
-    let same : c.from_residual-in_err-check_joins.result ≡ c.check_joins.result = search proof_rules in
-    stops c.from_residual-in_err-check_joins.result c.check_joins.result c.in_err-check_joins.field-0.0
+    let same : c.from_residual-in_err-check_joins.result ≡ c.check_joins.result =
+    search proof_rules in
+    stops c.from_residual-in_err-check_joins.result c.check_joins.result
+    c.in_err-check_joins.field-0.0
     (first_fault parts) (first_from join_line (join_lines parts))
-    (first_from (join_line + length parts.joins + 1) (path_lines parts)) same c.in_err-check_joins.was fourth c.check_joins.ensures
+    (first_from (join_line + length parts.joins + 1) (path_lines parts)) same
+    c.in_err-check_joins.was fourth c.check_joins.ensures
 
 pub returns : goal.returns
 returns c =

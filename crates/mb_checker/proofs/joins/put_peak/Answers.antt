@@ -1,8 +1,8 @@
 use Rattle.std.proofs.Common.{ap, ◌∙◌}
-use Rattle.mb_checker.proofs.JoinLines.{peak-suits}
-use Rattle.mb_checker.proofs.joins.put_peak.Goals as goal
+use Rattle.mb_order.proofs.PeakLaws.{peak-suits}
 use Rattle.mb_order.specs.Monomial.{Exponents}
 use Rattle.mb_tables.specs.Vectors.{greater}
+use Rattle.mb_checker.proofs.joins.put_peak.Goals as goal
 
 pub returns-clause-shape : goal.returns-clause-shape
 returns-clause-shape c =

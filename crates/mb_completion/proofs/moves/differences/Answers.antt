@@ -24,7 +24,8 @@ loop-cell-preserved c =
     record {
       so_far =
           difference-more left right (d + c.loop-cell.cell) (d + (c.loop-cell.cell + 1)) z done
-          c.push.new.self.items (difference (drop d left) (drop d right)) (omega arith) (omega arith)
+          c.push.new.self.items (difference (drop d left) (drop d right))
+          (omega arith) (omega arith)
           (omega arith) c.difference.ensures.entry e c.loop-cell.invariant.so_far;
       long = (let f = ap length e in let g = length-append done (z ∷ []) in omega arith);
       each = subst (All IsEntry) (sym e)

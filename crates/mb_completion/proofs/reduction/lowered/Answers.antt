@@ -9,13 +9,15 @@ use Rattle.mb_rules.specs.Sides.{sides}
 pub reduce-requires-clause-light : goal.reduce-requires-clause-light
 reduce-requires-clause-light c =
     subst (λ (m : Exponents). IsLight c.args.rules.now.matrix m.list) (sym c.in_ok-right.ensures)
-    (right_light c.args.rules.now c.get-rule.ensures.sound.design c.get-rule.ensures.sound.valid c.args.k
+    (right_light c.args.rules.now c.get-rule.ensures.sound.design
+    c.get-rule.ensures.sound.valid c.args.k
     (sides c.get-rule.result.now) c.get-rule.ensures.rule c.requires.light)
 
 pub returns-clause-kept : goal.returns-clause-kept
 returns-clause-kept c =
     let n = c.reduce.ensures.normal in
-    lowered_kept c.args.rules.now c.get-rule.ensures.sound.design c.get-rule.ensures.sound.valid c.args.k
+    lowered_kept c.args.rules.now c.get-rule.ensures.sound.design
+    c.get-rule.ensures.sound.valid c.args.k
     (sides c.get-rule.result.now) c.in_ok-try_copy.field-0.list c.reduce.new.m.list
     c.get-rule.ensures.rule c.requires.minimal
     (ap (λ (m : Exponents). m.list) c.in_ok-try_copy.ensures) (

@@ -12,13 +12,15 @@ pub loop-number-preserved : goal.loop-number-preserved
 loop-number-preserved c =
     let k = c.loop-number.number in
     let within : k < length c.args.entries.now = search rules in
-    let test : ℕ → Bool = λ k. is_some (count_in (slice_index_or c.args.entries.now k StructuralZero)) in
+    let test : ℕ → Bool =
+    λ k. is_some (count_in (slice_index_or c.args.entries.now k StructuralZero)) in
     elim c.match-entry.branch [
       | in-Count+in_ok-push-in-Count w ↦
           let at : get_or c.args.entries.now k (Count 0) ≡ Count w.in-Count._count = search rules in
           let is = entry_there c.args.entries.now k (Count w.in-Count._count) within at in
           let passes : test k ≡ true = ap (λ (e : Entry). is_some (count_in e)) is in
-          let pushed : c.match-entry.numbers.items ≡ c.loop-number.numbers.items ++ k ∷ [] = search rules in
+          let pushed : c.match-entry.numbers.items ≡ c.loop-number.numbers.items
+          ++ k ∷ [] = search rules in
           pushed ∙ ap (λ list. list ++ k ∷ []) c.loop-number.invariant
           ∙ sym (numbers_more test k
           ∙ ap (λ (b : Bool). filter test (range_with_len 0 k) ++ cond b (k ∷ []) []) passes)

@@ -11,8 +11,10 @@ pub loop-k-preserved : goal.loop-k-preserved
 loop-k-preserved c =
     let list = sizes c.args.levels.now in
     let within : c.loop-k.k < length list = search (rules, length-map) in
-    let size : c.len.result ≡ get_or list (length list - 1 - c.loop-k.k) 0 = search (rules, get_or-map, length-map) in
-    let next : c.saturating_mul-count.result ≡ min (c.loop-k.count * c.len.result) (2 ^ 64 - 1) = search rules in
+    let size : c.len.result ≡ get_or list (length list - 1 - c.loop-k.k) 0 =
+    search (rules, get_or-map, length-map) in
+    let next : c.saturating_mul-count.result ≡ min (c.loop-k.count * c.len.result)
+    (2 ^ 64 - 1) = search rules in
     cut_more list c.loop-k.k c.loop-k.count c.len.result (2 ^ 64 - 1) c.saturating_mul-count.result
     within c.loop-k.invariant size next
 

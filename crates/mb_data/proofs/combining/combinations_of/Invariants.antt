@@ -4,4 +4,5 @@ use Rattle.mb_data.proofs.combining.combinations_of.Given as goal
 
 abbrev pub invariant-loop-k : goal.invariant-loop-k
 invariant-loop-k l =
-    l.count ≡ min (combinations (drop (length (sizes l.levels) - l.k) (sizes l.levels))) (2 ^ 64 - 1)
+    l.count ≡ min (combinations (drop (length (sizes l.levels) - l.k) (sizes l.levels)))
+    (2 ^ 64 - 1)

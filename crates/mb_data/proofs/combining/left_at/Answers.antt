@@ -19,7 +19,8 @@ pub loop-k-preserved : goal.loop-k-preserved
 loop-k-preserved c =
     let list = sizes c.args.levels.now in
     let within : c.loop-k.k < length list = search (rules, length-map) in
-    let size : c.len.result ≡ get_or list (length list - 1 - c.loop-k.k) 0 = search (rules, get_or-map, length-map) in
+    let size : c.len.result ≡ get_or list (length list - 1 - c.loop-k.k) 0 =
+    search (rules, get_or-map, length-map) in
     let before = combinations (drop (length list - (c.loop-k.k + 1)) list) in
     let after = combinations (drop (length list - c.loop-k.k) list) in
     let more : before ≡ c.len.result * after =

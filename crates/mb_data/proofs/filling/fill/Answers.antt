@@ -13,7 +13,8 @@ add-requires c =
     let n = c.loop-number.number in
     let so_far = c.requires.rows in
     let key : c.make_key.new.key.items ≡ key_of (names_at levels n) = search rules in
-    let entry : c.entry_or_none.result ≡ unwrap_or (entry_at c.args.rows.now c.make_key.new.key.items) (Count 0) = search rules in
+    let entry : c.entry_or_none.result ≡ unwrap_or
+    (entry_at c.args.rows.now c.make_key.new.key.items) (Count 0) = search rules in
     let is = entry_is _ so_far.0 levels (entry_at c.args.rows.now) c.args.total n
     c.make_key.new.key.items c.entry_or_none.result so_far.1 key entry in
     let below : n < combinations (sizes levels) = search rules in
@@ -27,11 +28,13 @@ returns-then-not-branch c = λ rows gathers.
     let levels = c.args.levels.now in
     let n = c.loop-number.number in
     let key : c.make_key.new.key.items ≡ key_of (names_at levels n) = search rules in
-    let entry : c.entry_or_none.result ≡ unwrap_or (entry_at c.args.rows.now c.make_key.new.key.items) (Count 0) = search rules in
+    let entry : c.entry_or_none.result ≡ unwrap_or
+    (entry_at c.args.rows.now c.make_key.new.key.items) (Count 0) = search rules in
     let is = entry_is _ rows levels (entry_at c.args.rows.now) c.args.total n
     c.make_key.new.key.items c.entry_or_none.result gathers key entry in
     let below : n + 1 ≤ combinations (sizes levels) = search rules in
-    let many : 64 < length (counts (c.loop-number.filled.entries.items ++ c.entry_or_none.result ∷ [])) = search rules in
+    let many : 64 < length (counts (c.loop-number.filled.entries.items ++ c.entry_or_none.result
+    ∷ [])) = search rules in
     too_many rows levels (n + 1) (c.loop-number.filled.entries.items ++ c.entry_or_none.result ∷ [])
     below
     (one_more rows levels n c.loop-number.filled.entries.items c.entry_or_none.result
@@ -42,10 +45,12 @@ loop-number-preserved c = λ rows gathers.
     let levels = c.args.levels.now in
     let n = c.loop-number.number in
     let key : c.make_key.new.key.items ≡ key_of (names_at levels n) = search rules in
-    let entry : c.entry_or_none.result ≡ unwrap_or (entry_at c.args.rows.now c.make_key.new.key.items) (Count 0) = search rules in
+    let entry : c.entry_or_none.result ≡ unwrap_or
+    (entry_at c.args.rows.now c.make_key.new.key.items) (Count 0) = search rules in
     let is = entry_is _ rows levels (entry_at c.args.rows.now) c.args.total n
     c.make_key.new.key.items c.entry_or_none.result gathers key entry in
-    let pushed : c.add.new.self.entries.items ≡ c.loop-number.filled.entries.items ++ c.entry_or_none.result ∷ [] = search rules in
+    let pushed : c.add.new.self.entries.items ≡ c.loop-number.filled.entries.items
+    ++ c.entry_or_none.result ∷ [] = search rules in
     pushed
     ∙ one_more rows levels n c.loop-number.filled.entries.items c.entry_or_none.result
     (c.loop-number.invariant rows gathers) is

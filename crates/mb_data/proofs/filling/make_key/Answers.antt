@@ -18,10 +18,13 @@ loop-factor-preserved c =
     let at : slice_get (get_or levels k []) c.level_of.result ≡ Some c.name-name.result.now =
     ap (λ (list : List (List ℕ)). slice_get list c.level_of.result)
     (get_or_from_slice_get levels k c.index-levels-factor.result [] names) ∙ c.name-name.ensures in
-    let name = named_at levels places k c.level_of.result c.name-name.result.now within c.level_of.ensures.level at in
-    let pushed : c.push_name.new.key.items ≡ c.loop-factor.key.items ++ (c.name-name.result.now ++ 255 ∷ []) = search rules in
+    let name = named_at levels places k c.level_of.result c.name-name.result.now within
+    c.level_of.ensures.level at in
+    let pushed : c.push_name.new.key.items ≡ c.loop-factor.key.items
+    ++ (c.name-name.result.now ++ 255 ∷ []) = search rules in
     ap (λ front. front ++ key_of (drop (k + 1) (named levels places))) pushed
-    ∙ key_at (named levels places) k c.loop-factor.key.items c.name-name.result.now there name c.loop-factor.invariant
+    ∙ key_at (named levels places) k c.loop-factor.key.items c.name-name.result.now there name
+    c.loop-factor.invariant
 
 pub returns : goal.returns
 returns c =

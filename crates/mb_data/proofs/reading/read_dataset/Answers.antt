@@ -18,14 +18,17 @@ read_under-requires-clause-header c =
 
 pub returns-in-Ok : goal.returns-in-Ok
 returns-in-Ok c =
-    let are : records_of c.args.text.now ≡ c.in-Some.first.fields ∷ c.in-Some.first.left = search rules in
+    let are : records_of c.args.text.now ≡ c.in-Some.first.fields
+    ∷ c.in-Some.first.left = search rules in
     let header : header_of c.in-Some.first.fields ≡ Ok c.in-Ok.header = search rules in
-    rw (header_read c.args.text.now c.in-Some.first.fields c.in-Some.first.left c.in-Ok.header are header)
+    rw (header_read c.args.text.now c.in-Some.first.fields c.in-Some.first.left
+    c.in-Ok.header are header)
     c.read_under.ensures
 
 pub returns-in-Err : goal.returns-in-Err
 returns-in-Err c =
-    let are : records_of c.args.text.now ≡ c.in-Some.first.fields ∷ c.in-Some.first.left = search rules in
+    let are : records_of c.args.text.now ≡ c.in-Some.first.fields
+    ∷ c.in-Some.first.left = search rules in
     let refused = rw c.in-Err.is at c.read_header.ensures in
     header_refused c.args.text.now c.in-Some.first.fields c.in-Some.first.left
     (cause c.in-Err.fault) are refused

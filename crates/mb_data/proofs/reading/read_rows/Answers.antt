@@ -6,7 +6,8 @@ use Rattle.mb_data.proofs.reading.read_rows.Goals as goal
 pub returns-in-Err : goal.returns-in-Err
 returns-in-Err c =
     let so_far = c.loop-gathered.invariant.2 in
-    let left : c.loop-gathered.left.left ≡ c.in-Some.next.fields ∷ c.in-Some.next.left = search rules in
+    let left : c.loop-gathered.left.left ≡ c.in-Some.next.fields
+    ∷ c.in-Some.next.left = search rules in
     let refused = rw c.in-Err.is at (c.add.ensures.added so_far.0 so_far.1) in
     record_refused _ c.args.header.now c.loop-gathered.number so_far.0 c.in-Some.next.fields
     c.loop-gathered.left.left c.in-Some.next.left _ left so_far.2 refused
@@ -14,7 +15,8 @@ returns-in-Err c =
 pub loop-gathered-preserved : goal.loop-gathered-preserved
 loop-gathered-preserved c =
     let so_far = c.loop-gathered.invariant.2 in
-    let left : c.loop-gathered.left.left ≡ c.in-Some.next.fields ∷ c.in-Some.next.left = search rules in
+    let left : c.loop-gathered.left.left ≡ c.in-Some.next.fields
+    ∷ c.in-Some.next.left = search rules in
     let shorter = ap (λ (list : List (List (List ℕ))). length list) left in
     let added = rw c.in-Ok.is at (c.add.ensures.added so_far.0 so_far.1) in
     let wide : vec_len c.add.new.self.levels ≡ length c.args.header.now.factors = search rules in

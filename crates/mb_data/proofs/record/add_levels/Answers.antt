@@ -24,10 +24,13 @@ loop-factor-preserved c =
     let name : get_or row k [] ≡ c.field.result.now =
     level_field c.args.records.now.fields c.args.place k c.field_of_factor.result
     c.field.result.now c.requires.place c.field_of_factor.ensures c.field.ensures in
-    let old : get_or c.loop-factor.levels k [] ≡ get_or c.loop-factor.levels k c.index-levels-factor.result =
+    let old : get_or c.loop-factor.levels k [] ≡ get_or c.loop-factor.levels k
+    c.index-levels-factor.result =
     get_or_default c.loop-factor.levels k [] c.index-levels-factor.result
     (omega (arith, c.loop-factor-test.true, c.loop-factor.auto.levels)) in
-    let added : c.add_level.new.names ≡ with_name (get_or c.loop-factor.levels k c.index-levels-factor.result) c.field.result.now = search rules in
+    let added : c.add_level.new.names ≡ with_name
+    (get_or c.loop-factor.levels k c.index-levels-factor.result)
+    c.field.result.now = search rules in
     let within : k < length c.args.levels.now = search rules in
     name_more c.args.levels.now c.loop-factor.levels row k c.add_level.new.names within
     c.loop-factor.invariant

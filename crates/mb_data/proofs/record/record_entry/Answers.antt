@@ -8,7 +8,9 @@ use Rattle.mb_data.proofs.record.record_entry.Goals as goal
 
 pub returns-in-Some-clause-row : goal.returns-in-Some-clause-row
 returns-in-Some-clause-row c =
-    let text : (list_all is_utf8 c.args.records.now.fields && (length c.args.records.now.fields == length c.args.header.now.factors + 1)) ≡ true = search rules in
+    let text : (list_all is_utf8 c.args.records.now.fields &&
+    (length c.args.records.now.fields == length c.args.header.now.factors + 1))
+    ≡ true = search rules in
     row_said c.args.header.now c.args.number c.args.records.now.fields
     (entry_of c.field.result.now) c.in-Some.entry text
     (ap entry_of
@@ -18,7 +20,9 @@ returns-in-Some-clause-row c =
 
 pub returns-in-None-clause-row : goal.returns-in-None-clause-row
 returns-in-None-clause-row c =
-    let text : (list_all is_utf8 c.args.records.now.fields && (length c.args.records.now.fields == length c.args.header.now.factors + 1)) ≡ true = search rules in
+    let text : (list_all is_utf8 c.args.records.now.fields &&
+    (length c.args.records.now.fields == length c.args.header.now.factors + 1))
+    ≡ true = search rules in
     count_refused c.args.header.now c.args.number c.args.records.now.fields
     (entry_of c.field.result.now) text
     (ap entry_of

@@ -14,8 +14,14 @@ loop-factor-preserved c =
     level_field c.args.records.now.fields c.args.place k c.field_of_factor.result
     c.field.result.now c.requires.place c.field_of_factor.ensures c.field.ensures in
     let removed = length-remove c.args.records.now.fields c.args.place c.requires.place in
-    let within : k < length row = omega (arith, removed, c.loop-factor-test.true, c.len-factor-end.ensures) in
-    let pushed : c.push_name.new.key.items ≡ c.loop-factor.key.items ++ (c.field.result.now ++ 255 ∷ []) = search rules in
+    let within : k < length row = omega (
+      arith,
+      removed,
+      c.loop-factor-test.true,
+      c.len-factor-end.ensures,
+    ) in
+    let pushed : c.push_name.new.key.items ≡ c.loop-factor.key.items
+    ++ (c.field.result.now ++ 255 ∷ []) = search rules in
     ap (λ front. front ++ key_of (drop (k + 1) row)) pushed
     ∙ key_at row k c.loop-factor.key.items c.field.result.now within name c.loop-factor.invariant
 

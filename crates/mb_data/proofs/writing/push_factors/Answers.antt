@@ -13,7 +13,8 @@ loop-factor-preserved c =
     let name = c.factor.result.now in
     let within : k < length fields = search rules in
     let at = get_or_from_slice_get fields k name [] c.factor.ensures in
-    let pushed : c.push.new.self.items ≡ (front ++ field_text default_writer name) ++ 44 ∷ [] = search rules in
+    let pushed : c.push.new.self.items ≡ (front ++ field_text default_writer name)
+    ++ 44 ∷ [] = search rules in
     ap (λ list. list ++ with_commas (drop (k + 1) fields)) pushed
     ∙ comma_at fields k front (c.args.out.now.items ++ with_commas fields) name within at
     c.loop-factor.invariant

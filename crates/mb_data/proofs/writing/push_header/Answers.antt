@@ -11,5 +11,6 @@ returns c =
     let front = c.args.out.now.items in
     let some : 1 ≤ length fields = search rules in
     let pushed : c.push.new.self.items
-    ≡ ((front ++ with_commas fields) ++ field_text default_writer count_word) ++ 10 ∷ [] = search rules in
+    ≡ ((front ++ with_commas fields) ++ field_text default_writer count_word)
+    ++ 10 ∷ [] = search rules in
     pushed ∙ row_end fields count_word front some

@@ -18,8 +18,10 @@ loop-factor-preserved c =
     let inside : k < length c.args.dataset.now.factors = search rules in
     let below : k < length levels = omega (arith, inside, same) in
     let within : k < length fields = omega (arith, below, each_named levels c.args.number) in
-    let at = named_at levels places k c.level_in.result name below c.level_in.ensures.level c.level-name.ensures in
-    let pushed : c.push.new.self.items ≡ (front ++ field_text default_writer name) ++ 44 ∷ [] = search rules in
+    let at = named_at levels places k c.level_in.result name below c.level_in.ensures.level
+    c.level-name.ensures in
+    let pushed : c.push.new.self.items ≡ (front ++ field_text default_writer name)
+    ++ 44 ∷ [] = search rules in
     ap (λ list. list ++ with_commas (drop (k + 1) fields)) pushed
     ∙ comma_at fields k front (c.args.out.now.items ++ with_commas fields) name within at
     c.loop-factor.invariant
@@ -38,4 +40,9 @@ returns-clause-pushed c =
 pub returns-clause-some : goal.returns-clause-some
 returns-clause-some c =
     let sound = c.factors-factor-end.ensures.sound in
-    omega (arith, sound.each_factor, sound.some_factors, each_named c.args.dataset.now.levels c.args.number)
+    omega (
+      arith,
+      sound.each_factor,
+      sound.some_factors,
+      each_named c.args.dataset.now.levels c.args.number,
+    )

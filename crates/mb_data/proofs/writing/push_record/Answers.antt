@@ -16,7 +16,8 @@ returns c =
     let front = c.args.out.now.items in
     let some : 1 ≤ length fields = search rules in
     let pushed : c.push.new.self.items
-    ≡ ((front ++ with_commas fields) ++ field_text default_writer (entry_text c.entry.result)) ++ 10 ∷ [] = search rules in
+    ≡ ((front ++ with_commas fields) ++ field_text default_writer (entry_text c.entry.result))
+    ++ 10 ∷ [] = search rules in
     let at = get_or_from_slice_get c.args.dataset.now.entries c.args.number c.entry.result
     StructuralZero c.entry.ensures in
     pushed ∙ row_end fields (entry_text c.entry.result) front some

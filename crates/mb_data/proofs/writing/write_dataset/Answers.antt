@@ -9,7 +9,8 @@ pub loop-number-preserved : goal.loop-number-preserved
 loop-number-preserved c =
     let table = c.args.dataset.now in
     let pushed : c.push_record.new.out.items
-    ≡ c.loop-number.text.items ++ row_text default_writer (record_of table c.loop-number.number) = search rules in
+    ≡ c.loop-number.text.items ++ row_text default_writer
+    (record_of table c.loop-number.number) = search rules in
     pushed
     ∙ record_more (table.factors ++ count_word ∷ []) (record_of table) c.loop-number.number
     c.loop-number.text.items c.loop-number.invariant

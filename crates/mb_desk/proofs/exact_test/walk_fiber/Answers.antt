@@ -7,8 +7,9 @@ use Rattle.mb_rings.specs.declared.fault.WalkFault.TheVariants.{TooLarge}
 
 pub returns-in-Ok-clause-few : goal.returns-in-Ok-clause-few
 returns-in-Ok-clause-few g c =
-    (walked c.args.certificate.now c.matrix-matrix.ensures.sound c.requires.valid c.args.observed.now
-    c.requires.cells c.matrix-matrix.result.now c.moves-moves.result.now.rows c.args.limit c.in-Ok.rings.rings
+    (walked c.args.certificate.now c.matrix-matrix.ensures.sound c.requires.valid
+    c.args.observed.now c.requires.cells c.matrix-matrix.result.now c.moves-moves.result.now.rows
+    c.args.limit c.in-Ok.rings.rings
     c.matrix-matrix.ensures.matrix c.moves-moves.ensures.moves c.in-Ok.ensures.rings).0
 
 pub returns-in-Err-TooLarge-clause-few : goal.returns-in-Err-TooLarge-clause-few

@@ -10,8 +10,8 @@ counts count = Ok count
 pub returns-in-Some-clause-count : goal.returns-in-Some-clause-count
 returns-in-Some-clause-count c =
     judged-wrong c.args.matrix.now c.args.moves.now c.in-Some.row
-    (sym c.width.ensures.width ∙ c.if-width.false ∙ c.width-2.ensures.width) c.in-Some.ensures.some.0
-    c.in-Some.ensures.some.1 c.in-Some.ensures.first
+    (sym c.width.ensures.width ∙ c.if-width.false ∙ c.width-2.ensures.width)
+    c.in-Some.ensures.some.0 c.in-Some.ensures.some.1 c.in-Some.ensures.first
 
 pub returns-in-None-clause-count : goal.returns-in-None-clause-count
 returns-in-None-clause-count c =

@@ -2,7 +2,8 @@
 use Rattle.mb_desk.proofs.Meanings.{answer_means}
 use Rattle.mb_desk.proofs.Replies.{blames_one, completes, done_answers, done_holds, each_is_left, later, not_words, quiet, refused_stays, replied, where_some}
 use Rattle.mb_desk.specs.Commands.{plan_of, scene_for}
-use Rattle.mb_desk.specs.Words.{request_of, texts}
+use Rattle.mb_desk.specs.Forms.{texts}
+use Rattle.mb_desk.specs.Words.{request_of}
 use Rattle.mb_desk.proofs.top.desk.Goals as goal
 
 pub returns-in-Some-clause-told : goal.returns-in-Some-clause-told

@@ -1,7 +1,9 @@
 -- Two names, and then the options, if the words are some.
 use Rattle.std.proofs.Common.{Some, [], ap, sym, ◌∙◌, ◌∷◌}
 use Rattle.mb_desk.proofs.OptionWords.{names_and_choices, names_no_options}
-use Rattle.mb_desk.specs.Words.{Count, analyse_command, analyse_of_values, fiber_choice, read_command, texts, workers_choice}
+use Rattle.mb_desk.specs.Forms.{Count, texts}
+use Rattle.mb_desk.specs.Options.{fiber_choice, workers_choice}
+use Rattle.mb_desk.specs.Words.{analyse_command, analyse_of_values, read_command}
 use Rattle.mb_desk.specs.declared.requests.Request.TheVariants.{Analyse}
 use Rattle.mb_desk.proofs.words.read_analyse.Goals as goal
 

@@ -1,7 +1,8 @@
 -- Fewer than three words are no request.
 use Rattle.std.proofs.Common.{[]}
 use Rattle.mb_desk.proofs.OptionWords.{short_of_three}
-use Rattle.mb_desk.specs.Words.{APart, File, Name, export_of_values}
+use Rattle.mb_desk.specs.Forms.{APart, File, Name}
+use Rattle.mb_desk.specs.Words.{export_of_values}
 use Rattle.mb_desk.proofs.words.read_export.Goals as goal
 
 pub returns-in_default : goal.returns-in_default

@@ -2,7 +2,9 @@
 use Rattle.std.proofs.Common.{[], ap, sym, ◌∙◌, ◌∷◌}
 use Rattle.mb_desk.proofs.OptionWords.{number_and_choice, number_no_options}
 use Rattle.mb_desk.specs.Limits.{largest_seed}
-use Rattle.mb_desk.specs.Words.{Count, generate_command, generate_of_values, read_command, texts, workers_choice}
+use Rattle.mb_desk.specs.Forms.{Count, texts}
+use Rattle.mb_desk.specs.Options.{workers_choice}
+use Rattle.mb_desk.specs.Words.{generate_command, generate_of_values, read_command}
 use Rattle.mb_desk.proofs.words.read_generate.Goals as goal
 
 pub returns-then-not-are_options : goal.returns-then-not-are_options

@@ -1,5 +1,5 @@
 use Rattle.std.proofs.Common.{IfOk, OnOk, Result, Vec, subst, ℕ, Global}
-use Rattle.mb_claims.specs.Lists.{AreDistinct}
+use Rattle.mb_claims.specs.Lists.{AreDistinctKeys}
 use Rattle.mb_keyed.proofs.KeyedTables.{finds-keyed}
 use Rattle.mb_keyed.proofs.keyed_ring.next_keyed_ring.Goals as goal
 use Rattle.mb_keyed.specs.declared.ranked.Ranked.{Ranked}
@@ -29,9 +29,9 @@ returns-in-Ok-ring_of_keys-clause-found g c =
     (IsKeyNear c.args.graph.now c.args.ring.now)
     c.args.root.now.knows.gathered c.claim_ring-shards.new.root.knows.gathered (keys_in
     list.items))) c.in-Ok.is c.claim_ring-shards.ensures.found in
-    let once : AreDistinct c.claim_ring-shards.new.root.knows.gathered =
+    let once : AreDistinctKeys c.claim_ring-shards.new.root.knows.gathered =
     subst (λ (r : Result (Vec Ranked Global) WalkFault). OnOk r
-    (AreDistinct c.claim_ring-shards.new.root.knows.gathered)) c.in-Ok.is
+    (AreDistinctKeys c.claim_ring-shards.new.root.knows.gathered)) c.in-Ok.is
     c.claim_ring-shards.ensures.once in
     let told : (key : ℕ) → (IsKeyNear c.args.graph.now c.args.ring.now) key →
     In key c.claim_ring-shards.new.root.knows.gathered =

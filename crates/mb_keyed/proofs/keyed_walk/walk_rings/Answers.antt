@@ -1,7 +1,7 @@
 use Rattle.std.proofs.Common.{Global, IfErr, IfOk, List, Ok, Result, Vec, ap, arith, length, subst, sym, ℕ, ◌+◌, ◌-◌, ◌∙◌, ◌≡◌, ◌≤◌, ◌⊎◌}
 use Rattle.mb_keyed.proofs.KeyedWalks.{IsKeyedWalk, keyed-end, keyed-over, keyed-reached, keyed-start, keyed-step, near-of_fiber, ring-keyed, visited-count, visited_of}
 use Rattle.mb_keyed.proofs.keyed_walk.walk_rings.Goals as goal
-use Rattle.mb_keyed.specs.loops.Keyed.{Fiber, FindsKeyed, IsKeyFault, IsOfFiber, digits_in}
+use Rattle.mb_keyed.specs.loops.Keyed.{FiberAt, FindsKeyed, IsKeyFault, IsOfFiber, digits_in}
 use Rattle.mb_matrix.specs.Matrix.{fiber_of}
 use Rattle.mb_rings.proofs.FiberSteps.{fiber-walkable}
 use Rattle.mb_rings.proofs.Walking.{no-length, some-length, under-limit, walked-end, walked-few, walked-over}
@@ -47,7 +47,7 @@ next_keyed_ring-same-requires-clause-fiber g c κs within v near =
     let graph = c.args.graph.now in
     let are = ap digits_in c.requires.fiber in
     let rings = listed c.loop-alloc.rings.items in
-    subst (λ (fiber : Fiber). IsOfFiber fiber v) (sym c.requires.fiber)
+    subst (λ (fiber : FiberAt). IsOfFiber fiber v) (sym c.requires.fiber)
     (near-of_fiber graph.fiber.matrix c.keys-keys.ensures.sound c.args.start.now c.requires.cells
     c.requires.fits graph.moves.rows c.requires.moves (digits_in graph.fiber) are c.args.limit
     rings c.loop-alloc.ring.items c.loop-alloc.root.knows.gathered

@@ -10,16 +10,16 @@ pub loop-share-init : goal.loop-share-init
 loop-share-init g c =
     let graph = c.args.graph.now in (
       c.requires.ours,
-      worked-none (digits_in graph.fiber) graph.moves.rows c.args.ring.now c.args.count c.args.passes
-          c.args.number c.args.worker.now,
+      worked-none (digits_in graph.fiber) graph.moves.rows c.args.ring.now c.args.count
+          c.args.passes c.args.number c.args.worker.now,
     )
 
 pub loop-share-preserved : goal.loop-share-preserved
 loop-share-preserved g c =
     let graph = c.args.graph.now in (
       c.try_share.ensures.ours,
-      worked-share (digits_in graph.fiber) graph.moves.rows c.args.ring.now c.args.count c.args.passes
-          c.args.number c.loop-share.share c.args.worker.now c.loop-share.worker
+      worked-share (digits_in graph.fiber) graph.moves.rows c.args.ring.now c.args.count
+          c.args.passes c.args.number c.loop-share.share c.args.worker.now c.loop-share.worker
           c.try_share.new.worker c.loop-share.invariant.1 c.try_share.ensures.claimed,
     )
 

@@ -23,11 +23,12 @@ loop-one-preserved c =
       | then-not-has+in_ok-push w ↦
           let items : keys_in c.if-not-has.unknown.items ≡ keys_in old ++ one.key ∷ [] =
           ap (λ (v : Vec Ranked Global). keys_in v.items) w.unknown-is
-          ∙ ap keys_in w.in_ok-push.ensures.items ∙ map-append (λ (r : Ranked). r.key) old (one ∷ []) in
+          ∙ ap keys_in w.in_ok-push.ensures.items
+          ∙ map-append (λ (r : Ranked). r.key) old (one ∷ []) in
           rw (taken, items)
           (unknown-one cache (take place (keys_in near)) (keys_in old) one.key c.loop-one.invariant)
       | else-not-has w ↦
           rw (taken, w.unknown-is)
-          (unknown-cached cache (take place (keys_in near)) (keys_in old) one.key w.if-not-has.ensures
-          c.loop-one.invariant)
+          (unknown-cached cache (take place (keys_in near)) (keys_in old) one.key
+          w.if-not-has.ensures c.loop-one.invariant)
     ]

@@ -5,4 +5,5 @@ use Rattle.mb_kinds.proofs.hardy_weinberg.genotypes.Given as goal
 abbrev pub invariant-loop-class : goal.invariant-loop-class
 invariant-loop-class l =
     l.pairs.items
-    ≡ flat_map (λ i. map (λ j. (i, j)) (range_with_len i (l.classes - i))) (range_with_len 0 l.class)
+    ≡ flat_map (λ i. map (λ j. (i, j)) (range_with_len i (l.classes - i)))
+    (range_with_len 0 l.class)

@@ -15,8 +15,10 @@ model_on-requires-clause-entries c =
     let classes = c.in_ok-classes.classes in
     let made : c.in_ok-pairs.pairs.items ≡ genotypes classes = search rules in
     let count : length c.in_ok-pairs.pairs.items ≡ c.cells-cells.result = search rules in
-    let is : c.as_slice-3.result.now ≡ end_to_end (map (class_row classes) (range_with_len 0 classes)) = search rules in
-    classes_full classes c.cells-cells.result c.as_slice-3.result.now (ap length (sym made) ∙ count) is
+    let is : c.as_slice-3.result.now ≡ end_to_end
+    (map (class_row classes) (range_with_len 0 classes)) = search rules in
+    classes_full classes c.cells-cells.result c.as_slice-3.result.now
+    (ap length (sym made) ∙ count) is
 
 pub returns : goal.returns
 returns c =
@@ -24,7 +26,8 @@ returns c =
     let has : classes_at (table_view c.args.text.now) ≡ Ok classes = search rules in
     let made : c.in_ok-pairs.pairs.items ≡ genotypes classes = search rules in
     let count : length c.in_ok-pairs.pairs.items ≡ c.cells-cells.result = search rules in
-    let is : c.as_slice-3.result.now ≡ end_to_end (map (class_row classes) (range_with_len 0 classes)) = search rules in
+    let is : c.as_slice-3.result.now ≡ end_to_end
+    (map (class_row classes) (range_with_len 0 classes)) = search rules in
     let base : c.as_slice-4.result.now ≡ map orders (genotypes classes) = search rules in
     subst (λ (says : Result ModelValue KindFault). Gives kind_cause (λ m. m) c.model_on.result says)
     (classes_made c.args.dataset.now (table_view c.args.text.now) classes c.cells-cells.result

@@ -13,15 +13,18 @@ use Rattle.mb_tables.specs.Answers.{Gives}
 pub returns-in_default : goal.returns-in_default
 returns-in_default c =
     let given = option_map (λ (v : Vec ℕ Global). v.items) c.args.given in
-    let has : base_for (cell_count c.args.dataset.now) given ≡ Ok c.in_ok-base.base.items = search rules in
-    let many : 64 < length (flat_map (margin_rows c.args.dataset.now) c.args.generators.now) = search rules in
+    let has : base_for (cell_count c.args.dataset.now) given
+    ≡ Ok c.in_ok-base.base.items = search rules in
+    let many : 64 < length (flat_map (margin_rows c.args.dataset.now) c.args.generators.now) =
+    search rules in
     too_many c.args.dataset.now c.cells-count.ensures.sound c.args.generators.now given
     c.in_ok-base.base.items has many
 
 pub returns-in_default-margin_size : goal.returns-in_default-margin_size
 returns-in_default-margin_size c =
     let given = option_map (λ (v : Vec ℕ Global). v.items) c.args.given in
-    let has : base_for (cell_count c.args.dataset.now) given ≡ Ok c.in_ok-base.base.items = search rules in
+    let has : base_for (cell_count c.args.dataset.now) given
+    ≡ Ok c.in_ok-base.base.items = search rules in
     let g = c.as_slice-2.result.now in
     let there : get_or c.args.generators.now 0 g ≡ g = search rules in
     let at = first_at c.args.generators.now g c.requires.some there in
@@ -32,10 +35,13 @@ returns-in_default-margin_size c =
 
 pub model_on-requires-clause-entries : goal.model_on-requires-clause-entries
 model_on-requires-clause-entries c =
-    let is : c.as_slice-3.result.now ≡ end_to_end (flat_map (margin_rows c.args.dataset.now) c.args.generators.now) = search rules in
-    let count : c.in-Some.rows ≡ length (flat_map (margin_rows c.args.dataset.now) c.args.generators.now) = search rules in
+    let is : c.as_slice-3.result.now ≡ end_to_end
+    (flat_map (margin_rows c.args.dataset.now) c.args.generators.now) = search rules in
+    let count : c.in-Some.rows ≡ length (flat_map (margin_rows c.args.dataset.now)
+    c.args.generators.now) = search rules in
     ap length is
-    ∙ entries_full c.args.dataset.now c.args.generators.now c.in-Some.rows c.cells-count.result count c.cells-count.ensures.cells
+    ∙ entries_full c.args.dataset.now c.args.generators.now c.in-Some.rows c.cells-count.result
+    count c.cells-count.ensures.cells
 
 pub model_on-requires-clause-base : goal.model_on-requires-clause-base
 model_on-requires-clause-base c =
@@ -48,17 +54,21 @@ returns c =
     let table = c.args.dataset.now in
     let given = option_map (λ (v : Vec ℕ Global). v.items) c.args.given in
     let has : base_for (cell_count table) given ≡ Ok c.as_slice-4.result.now = search rules in
-    let is : c.as_slice-3.result.now ≡ end_to_end (flat_map (margin_rows table) c.args.generators.now) = search rules in
-    let count : c.in-Some.rows ≡ length (flat_map (margin_rows table) c.args.generators.now) = search rules in
+    let is : c.as_slice-3.result.now ≡ end_to_end
+    (flat_map (margin_rows table) c.args.generators.now) = search rules in
+    let count : c.in-Some.rows ≡ length (flat_map (margin_rows table) c.args.generators.now) =
+    search rules in
     let g = c.as_slice-2.result.now in
     let there : get_or c.args.generators.now 0 g ≡ g = search rules in
     let at = first_at c.args.generators.now g c.requires.some there in
     let first : c.in-Some-margin_size.first ≡ margin_size table g = search rules in
-    let numbers : c.in_ok-first_rows.field-0.items ≡ range_with_len 1 c.in-Some-margin_size.first = search rules in
+    let numbers : c.in_ok-first_rows.field-0.items
+    ≡ range_with_len 1 c.in-Some-margin_size.first = search rules in
     let scale = ap RowMargins (numbers ∙ ap (range_with_len 1) first
     ∙ ap (λ (g : List ℕ). range_with_len 1 (margin_size table g)) (sym at)) in
     subst (λ (says : Result ModelValue KindFault). Gives kind_cause (λ m. m) c.model_on.result says)
     (made table c.cells-count.ensures.sound c.args.generators.now given c.as_slice-4.result.now has
-    c.in-Some.rows c.cells-count.result c.as_slice-3.result.now (RowMargins c.in_ok-first_rows.field-0.items)
+    c.in-Some.rows c.cells-count.result c.as_slice-3.result.now
+    (RowMargins c.in_ok-first_rows.field-0.items)
     c.cells-count.ensures.cells count is scale)
     c.model_on.ensures

@@ -39,7 +39,8 @@ loop-generator-preserved c =
     let within : i < length c.args.generators.now = search rules in
     let at : get_or c.args.generators.now i g ≡ g = search rules in
     let is : c.in-Some.size ≡ margin_size c.args.dataset.now g = search rules in
-    let pushed : c.in_ok-entries.entries.items ≡ c.loop-generator.entries.items ++ end_to_end (rows g) = search rules in
+    let pushed : c.in_ok-entries.entries.items ≡ c.loop-generator.entries.items
+    ++ end_to_end (rows g) = search rules in
     let more = rows_more rows c.args.generators.now i g within at in
     let long = ap length more in
     let both = length-append front (rows g) in

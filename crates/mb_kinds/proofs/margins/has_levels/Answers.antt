@@ -13,7 +13,8 @@ nonzero_div-size c =
 pub nonzero_div-left : goal.nonzero_div-left
 nonzero_div-left c =
     let within : c.loop-factor.factor-index < length c.args.factors.now = search rules in
-    is_positive c.args.dataset.now c.factors-sound.ensures.sound c.args.factors.now c.requires.placed
+    is_positive c.args.dataset.now c.factors-sound.ensures.sound
+    c.args.factors.now c.requires.placed
     c.loop-factor.factor-index within c.levels-size.result c.levels-size.ensures
     c.loop-factor.size c.loop-factor.invariant.size
 
@@ -25,17 +26,21 @@ returns-then-left-size c =
     let levels = c.args.dataset.now.levels in
     let unequal : nat_eq (c.loop-factor.left / rest) c.level_in.result ≡ false = search rules in
     sym (c.loop-factor.invariant.same
-    ∙ same_left levels c.args.factors.now i (get_or c.args.factors.now i 0) c.loop-factor.left c.args.cell
+    ∙ same_left levels c.args.factors.now i (get_or c.args.factors.now i 0)
+    c.loop-factor.left c.args.cell
     c.level_in.result rest within refl c.level_in.ensures.level
     (is_left c.args.dataset.now c.factors-sound.ensures.sound c.args.factors.now c.requires.placed
-    i within c.levels-size.result c.levels-size.ensures c.loop-factor.size c.loop-factor.invariant.size)
-    ∙ ap (λ (b : Bool). b && same levels (drop (i + 1) c.args.factors.now) (c.loop-factor.left % rest) c.args.cell)
+    i within c.levels-size.result c.levels-size.ensures c.loop-factor.size
+    c.loop-factor.invariant.size)
+    ∙ ap (λ (b : Bool). b && same levels (drop (i + 1) c.args.factors.now)
+    (c.loop-factor.left % rest) c.args.cell)
     unequal)
 
 pub nonzero_rem-left : goal.nonzero_rem-left
 nonzero_rem-left c =
     let within : c.loop-factor.factor-index < length c.args.factors.now = search rules in
-    is_positive c.args.dataset.now c.factors-sound.ensures.sound c.args.factors.now c.requires.placed
+    is_positive c.args.dataset.now c.factors-sound.ensures.sound
+    c.args.factors.now c.requires.placed
     c.loop-factor.factor-index within c.levels-size.result c.levels-size.ensures
     c.loop-factor.size c.loop-factor.invariant.size
 
@@ -46,17 +51,23 @@ loop-factor-preserved c =
     let rest = c.loop-factor.size / c.levels-size.result in
     let levels = c.args.dataset.now.levels in
     let equal : nat_eq (c.loop-factor.left / rest) c.level_in.result ≡ true = search rules in
-    let left = is_left c.args.dataset.now c.factors-sound.ensures.sound c.args.factors.now c.requires.placed
-    i within c.levels-size.result c.levels-size.ensures c.loop-factor.size c.loop-factor.invariant.size in
+    let left = is_left c.args.dataset.now c.factors-sound.ensures.sound
+    c.args.factors.now c.requires.placed
+    i within c.levels-size.result c.levels-size.ensures c.loop-factor.size
+    c.loop-factor.invariant.size in
     record {
       size = left;
       left = mod_below c.loop-factor.left rest
-          (is_positive c.args.dataset.now c.factors-sound.ensures.sound c.args.factors.now c.requires.placed
-          i within c.levels-size.result c.levels-size.ensures c.loop-factor.size c.loop-factor.invariant.size);
+          (is_positive c.args.dataset.now c.factors-sound.ensures.sound
+          c.args.factors.now c.requires.placed
+          i within c.levels-size.result c.levels-size.ensures c.loop-factor.size
+          c.loop-factor.invariant.size);
       same = c.loop-factor.invariant.same
-          ∙ same_left levels c.args.factors.now i (get_or c.args.factors.now i 0) c.loop-factor.left c.args.cell
+          ∙ same_left levels c.args.factors.now i (get_or c.args.factors.now i 0)
+          c.loop-factor.left c.args.cell
           c.level_in.result rest within refl c.level_in.ensures.level left
-          ∙ ap (λ (b : Bool). b && same levels (drop (i + 1) c.args.factors.now) (c.loop-factor.left % rest) c.args.cell)
+          ∙ ap (λ (b : Bool). b && same levels (drop (i + 1) c.args.factors.now)
+          (c.loop-factor.left % rest) c.args.cell)
           equal;
     }
 

@@ -7,7 +7,8 @@ returns-then-levels c =
     let i = c.loop-factor.factor-index in
     let within : i < length c.args.factors.now = search rules in
     let many : 64 < c.levels-levels.result = search rules in
-    many_levels c.args.dataset.now c.factors-sound.ensures.sound c.args.factors.now c.requires i within
+    many_levels c.args.dataset.now c.factors-sound.ensures.sound c.args.factors.now
+    c.requires i within
     c.levels-levels.result c.levels-levels.ensures c.loop-factor.count _
     c.loop-factor.invariant.some many c.loop-factor.invariant.total
 
@@ -16,7 +17,8 @@ returns-then-count-gt-MOST_CELLS c =
     let i = c.loop-factor.factor-index in
     let within : i < length c.args.factors.now = search rules in
     let many : 64 < c.loop-factor.count * c.levels-levels.result = search rules in
-    many_counted c.args.dataset.now c.factors-sound.ensures.sound c.args.factors.now c.requires i within
+    many_counted c.args.dataset.now c.factors-sound.ensures.sound c.args.factors.now
+    c.requires i within
     c.levels-levels.result c.levels-levels.ensures c.loop-factor.count _
     many c.loop-factor.invariant.total
 
@@ -25,10 +27,13 @@ loop-factor-preserved c =
     let i = c.loop-factor.factor-index in
     let within : i < length c.args.factors.now = search rules in
     record {
-      total = count_more c.args.dataset.now c.factors-sound.ensures.sound c.args.factors.now c.requires i within
-          c.levels-levels.result c.levels-levels.ensures c.loop-factor.count _ c.loop-factor.invariant.total;
+      total = count_more c.args.dataset.now c.factors-sound.ensures.sound c.args.factors.now
+          c.requires i within
+          c.levels-levels.result c.levels-levels.ensures c.loop-factor.count _
+          c.loop-factor.invariant.total;
       some = some_product c.loop-factor.count c.levels-levels.result c.loop-factor.invariant.some
-          (is_some c.args.dataset.now c.factors-sound.ensures.sound c.args.factors.now c.requires i within
+          (is_some c.args.dataset.now c.factors-sound.ensures.sound c.args.factors.now
+          c.requires i within
           c.levels-levels.result c.levels-levels.ensures);
       few = search rules;
     }

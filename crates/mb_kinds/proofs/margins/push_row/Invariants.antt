@@ -7,4 +7,5 @@ abbrev pub invariant-loop-cell : goal.invariant-loop-cell
 invariant-loop-cell l =
     l.entries.items
     ≡ l.fn.entries.items
-    ++ map (λ cell. indicator (same l.dataset.levels l.factors l.number cell)) (take l.cell-index l.cells)
+    ++ map (λ cell. indicator (same l.dataset.levels l.factors l.number cell))
+    (take l.cell-index l.cells)

@@ -9,5 +9,6 @@ abbrev pub invariant-loop-number : goal.invariant-loop-number
 invariant-loop-number l =
     l.entries.items
     ≡ l.fn.entries.items
-    ++ end_to_end (map (λ k. level_row l.dataset l.factors (combination (sizes_of l.dataset.levels l.factors) k))
+    ++ end_to_end (map (λ k. level_row l.dataset l.factors
+    (combination (sizes_of l.dataset.levels l.factors) k))
     (range_with_len 0 l.number))

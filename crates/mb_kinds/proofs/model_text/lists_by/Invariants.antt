@@ -7,4 +7,5 @@ use Rattle.toml.specs.View.{items_view}
 abbrev pub invariant-loop-k : goal.invariant-loop-k
 invariant-loop-k l =
     items_by (list_in l.key (text_in l.key)) (items_view l.items.items)
-    ≡ gathered l.lists.items (items_by (list_in l.key (text_in l.key)) (items_view (drop l.k l.items.items)))
+    ≡ gathered l.lists.items (items_by (list_in l.key (text_in l.key))
+    (items_view (drop l.k l.items.items)))

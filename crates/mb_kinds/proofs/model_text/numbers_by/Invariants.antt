@@ -7,4 +7,5 @@ use Rattle.toml.specs.View.{items_view}
 abbrev pub invariant-loop-k : goal.invariant-loop-k
 invariant-loop-k l =
     items_by (number_in l.key l.lowest l.highest) (items_view l.items.items)
-    ≡ gathered l.numbers.items (items_by (number_in l.key l.lowest l.highest) (items_view (drop l.k l.items.items)))
+    ≡ gathered l.numbers.items (items_by (number_in l.key l.lowest l.highest)
+    (items_view (drop l.k l.items.items)))

@@ -6,7 +6,9 @@ use Rattle.mb_kinds.proofs.rasch.are_binary.Goals as goal
 
 pub levels-requires : goal.levels-requires
 levels-requires c =
-    let named : c.as_slice-factor-items.result.now ≡ factors_named c.args.dataset.now.factors c.args.names.now = search rules in
-    let within : c.loop-factor.factor-index < length c.as_slice-factor-items.result.now = search rules in
+    let named : c.as_slice-factor-items.result.now
+    ≡ factors_named c.args.dataset.now.factors c.args.names.now = search rules in
+    let within : c.loop-factor.factor-index
+    < length c.as_slice-factor-items.result.now = search rules in
     subst (λ (list : List ℕ). IsPlaced c.args.dataset.now list) (sym named)
     (is_placed c.args.dataset.now c.args.names.now) c.loop-factor.factor-index 0 within

@@ -1,7 +1,7 @@
 use Rattle.std.proofs.Common.{ap, arith, length, length-append, sym, ◌++◌, ◌+◌, ◌-◌, ◌∙◌, ◌≡◌}
-use Rattle.mb_tables.proofs.HandedOn.{gives-handed_on}
-use Rattle.mb_kinds.proofs.RowReading.{refused_on, row_read, row_wrong, rows_read, with_front}
+use Rattle.mb_kinds.proofs.RowReading.{row_read, row_wrong, rows_read, with_front}
 use Rattle.mb_kinds.specs.RecordText.{row_in, rows_in}
+use Rattle.mb_tables.proofs.HandedOn.{gives-handed_on, refused_on}
 use Rattle.mb_text.specs.Lines.{lines}
 use Rattle.mb_text.specs.RecordLines.{record_cause, says}
 use Rattle.mb_kinds.proofs.record_rows.read_rows.Goals as goal

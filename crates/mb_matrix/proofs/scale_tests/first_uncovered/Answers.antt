@@ -6,7 +6,8 @@ use Rattle.mb_matrix.proofs.scale_tests.first_uncovered.Goals as goal
 
 pub returns-then-not-is_covered : goal.returns-then-not-is_covered
 returns-then-not-is_covered c =
-    sym (position_range-Some (λ cell. not (count_by (has_cell c.args.matrix.now cell) c.args.rows.now == 1))
+    sym (position_range-Some
+    (λ cell. not (count_by (has_cell c.args.matrix.now cell) c.args.rows.now == 1))
     (length c.args.matrix.now.columns) c.loop-cell.cell (omega arith) c.loop-cell.invariant
     (ap not (sym c.is_covered.ensures) ∙ cc))
 
@@ -22,6 +23,7 @@ loop-cell-preserved c k l =
 
 pub returns : goal.returns
 returns c =
-    sym (position_range-None (λ cell. not (count_by (has_cell c.args.matrix.now cell) c.args.rows.now == 1))
+    sym (position_range-None
+    (λ cell. not (count_by (has_cell c.args.matrix.now cell) c.args.rows.now == 1))
     (length c.args.matrix.now.columns)
     (λ k l. c.loop-cell.invariant k (omega arith)))

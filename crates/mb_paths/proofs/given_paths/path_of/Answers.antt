@@ -69,7 +69,8 @@ returns-in-Ok-Apart-clause-none c =
       are.1,
       subst (λ (m : Design). IsApart c.args.limit m c.args.moves.now.rows c.in_ok-left.left
           c.in_ok-right.right) c.matrix.ensures.matrix
-          (subst (λ b. Answers c.args.limit c.matrix.result.now c.args.moves.now.rows c.in_ok-left.left
+          (subst (λ b. Answers c.args.limit c.matrix.result.now
+          c.args.moves.now.rows c.in_ok-left.left
           c.in_ok-right.right (Ok b)) c.in-Ok-Apart.field-0-is c.in-Ok-Apart.ensures),
     )
 

@@ -15,7 +15,8 @@ pub loop-place-init : goal.loop-place-init
 loop-place-init c = record {
   from = omega arith;
   searching =
-      searching-none (NearBelow c.args.moves.now.rows (drop c.args.first c.args.tree.now.tables.items)
+      searching-none (NearBelow c.args.moves.now.rows
+      (drop c.args.first c.args.tree.now.tables.items)
       (c.args.first - c.args.first)) c.args.limit c.args.tree.now.visited
       c.args.tree.now.tables.items (λ v h. let l = h.below in omega arith) c.requires.room;
   known = c.requires.known;
@@ -48,7 +49,8 @@ returns-in_err-expand_place-clause-refused c =
     let place = c.loop-place.place in
     let fault = c.in_err-expand_place.field-0.0 in
     handed_on c.from_residual.result fault
-    (IsSearchFault (IsNear moves ring) c.args.limit c.args.tree.now.visited) c.from_residual.ensures.1
+    (IsSearchFault (IsNear moves ring) c.args.limit c.args.tree.now.visited)
+    c.from_residual.ensures.1
     (over-ring moves ring (place - c.args.first) (get_or tables place [])
     (ring-at tables c.args.first place c.loop-place.invariant.from (omega arith)) c.args.limit
     c.args.tree.now.visited tables c.loop-place.tree.visited c.loop-place.tree.tables.items fault

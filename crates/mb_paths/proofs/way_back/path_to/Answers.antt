@@ -21,10 +21,12 @@ step_between-requires-clause-parent c =
     let here = c.loop-here.here in
     let within = c.loop-here.invariant.within in
     let later = c.loop-here-test.true in
-    let l = parent-there moves (get_or tables 0 []) tables parents c.requires.born here within later in
+    let l = parent-there moves (get_or tables 0 []) tables parents c.requires.born
+    here within later in
     let is = slice_get_read parents (length parents) here c.index.result.now (omega arith) l
     c.index.ensures in
-    let m = parent-before moves (get_or tables 0 []) tables parents c.requires.born here within later
+    let m = parent-before moves (get_or tables 0 []) tables parents
+    c.requires.born here within later
     c.index.result.now is in omega arith
 
 pub step_between-requires-clause-goes_on : goal.step_between-requires-clause-goes_on
@@ -35,7 +37,8 @@ step_between-requires-clause-goes_on c =
     let here = c.loop-here.here in
     let within = c.loop-here.invariant.within in
     let later = c.loop-here-test.true in
-    let l = parent-there moves (get_or tables 0 []) tables parents c.requires.born here within later in
+    let l = parent-there moves (get_or tables 0 []) tables parents c.requires.born
+    here within later in
     parent-goes_on moves (get_or tables 0 []) tables parents c.requires.born here within later
     c.index.result.now
     (slice_get_read parents (length parents) here c.index.result.now (omega arith) l
@@ -49,7 +52,8 @@ step_between-requires-clause-reached c =
     let here = c.loop-here.here in
     let within = c.loop-here.invariant.within in
     let later = c.loop-here-test.true in
-    let l = parent-there moves (get_or tables 0 []) tables parents c.requires.born here within later in
+    let l = parent-there moves (get_or tables 0 []) tables parents c.requires.born
+    here within later in
     parent-reached moves (get_or tables 0 []) tables parents c.requires.born here within later
     c.index.result.now
     (slice_get_read parents (length parents) here c.index.result.now (omega arith) l
@@ -64,7 +68,8 @@ before c =
     let here = c.loop-here.here in
     let within = c.loop-here.invariant.within in
     let later = c.loop-here-test.true in
-    let l = parent-there moves (get_or tables 0 []) tables parents c.requires.born here within later in
+    let l = parent-there moves (get_or tables 0 []) tables parents c.requires.born
+    here within later in
     parent-before moves (get_or tables 0 []) tables parents c.requires.born here within later
     c.index.result.now
     (slice_get_read parents (length parents) here c.index.result.now (omega arith) l

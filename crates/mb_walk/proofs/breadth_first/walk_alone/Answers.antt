@@ -2,8 +2,8 @@ use Rattle.std.proofs.Common.{Global, List, Ok, Vec, [], ap, arith, length, subs
 use Rattle.std.proofs.lemmas.List.{map-append}
 use Rattle.std.specs.List.Sorted.{IsPermutation}
 use Rattle.mb_matrix.specs.Matrix.{fiber_of}
-use Rattle.mb_rings.proofs.FiberSteps.{fiber-only, fiber-walkable}
-use Rattle.mb_rings.proofs.Walking.{IsWalked, distance-falls, no-length, ring-fiber, ring-known, some-length, under-limit, walked-end, walked-few, walked-over, walked-start, walked-step, walked-total}
+use Rattle.mb_rings.proofs.FiberSteps.{fiber-walkable}
+use Rattle.mb_rings.proofs.Walking.{IsWalked, distance-falls, no-length, ring-known, some-length, under-limit, walked-end, walked-few, walked-over, walked-start, walked-step, walked-total}
 use Rattle.mb_rings.specs.loops.Found.{Finds, IsSearchFault}
 use Rattle.mb_rings.specs.Walk.{walk_cause, walk_of, within_limit}
 use Rattle.mb_rings.specs.Walked.{Walked}
@@ -11,6 +11,7 @@ use Rattle.mb_rings.specs.loops.RingList.{listed}
 use Rattle.mb_tables.specs.Lists.{In}
 use Rattle.mb_tables.proofs.HandedOn.{gives-handed_on}
 use Rattle.mb_tables.specs.Step.{IsNear}
+use Rattle.mb_walk.proofs.RingCells.{ring-cells}
 use Rattle.mb_walk.proofs.breadth_first.walk_alone.Given as given
 use Rattle.mb_walk.proofs.breadth_first.walk_alone.Goals as goal
 
@@ -37,16 +38,11 @@ loop-alloc-init g c =
 
 pub next_ring-requires-clause-widths : goal.next_ring-requires-clause-widths
 next_ring-requires-clause-widths g c u i =
-    let matrix = c.args.matrix.now in
-    let start = c.args.start.now in
-    let walkable =
-    fiber-walkable matrix c.cols.ensures.sound start c.args.moves.now.rows c.requires.moves
-    c.requires.cells c.requires.margins in
-    let there =
-    ring-fiber (fiber_of matrix start) c.args.moves.now.rows start c.args.limit
+    ring-cells c.args.matrix.now c.cols.ensures.sound c.args.start.now c.args.moves.now.rows
+    c.requires.moves c.requires.cells c.requires.margins c.args.limit
     (listed c.loop-alloc.rings.items) c.loop-alloc.ring.items c.loop-alloc.visited
-    c.loop-alloc.invariant walkable u (subst (In u) c.as_slice.ensures.value i) in
-    (fiber-only matrix c.cols.ensures.sound start u there).0 ∙ sym c.requires.width
+    c.loop-alloc.invariant u (subst (In u) c.as_slice.ensures.value i)
+    ∙ sym c.requires.width
 
 pub next_ring-requires-clause-known : goal.next_ring-requires-clause-known
 next_ring-requires-clause-known g c =
@@ -61,7 +57,8 @@ returns-in_err-next-clause-rings g c =
     let start = c.args.start.now in
     let moves = c.args.moves.now.rows in
     let fault = c.in_err-next.field-0.0 in
-    gives-handed_on walk_cause (λ (walked : Walked). walked.rings) c.from_residual-in_err-next.result fault
+    gives-handed_on walk_cause (λ (walked : Walked). walked.rings)
+    c.from_residual-in_err-next.result fault
     (walk_of c.args.limit matrix moves start) c.from_residual-in_err-next.ensures.1
     (walked-over (fiber_of matrix start) moves start c.args.limit
     (listed c.loop-alloc.rings.items) c.loop-alloc.ring.items c.loop-alloc.visited

@@ -1,6 +1,5 @@
-use Rattle.std.proofs.Common.{All, List, ap, arith, drop, length, subst, sym, take, ◌++◌, ◌∙◌, ◌≡◌}
-use Rattle.std.proofs.Math.Seq.{take-append_seam}
-use Rattle.std.specs.List.{refill}
+use Rattle.std.proofs.Common.{All, List, ap, arith, length, subst, sym, ◌∙◌, ◌≡◌}
+use Rattle.mb_keyed.proofs.LentLists.{refill-all}
 use Rattle.mb_rings.specs.loops.Found.{IsSearchFault}
 use Rattle.mb_tables.proofs.HandedOn.{handed_on}
 use Rattle.mb_tables.specs.Step.{IsNear}
@@ -17,9 +16,7 @@ returns-in_err-judge-clause-refused g c =
     let e : c.in_ok-dealers.dealers.len ≡ length new = omega arith in
     let was : length c.as_mut_slice.result.now ≡ length items =
     ap (λ (list : List Dealer). length list) c.as_mut_slice.ensures.value in
-    let same : refill c.in_ok-dealers.dealers.len items new ≡ new =
-    ap (λ n. take n (new ++ drop (length new) items)) e
-    ∙ take-append_seam new (drop (length new) items) in
+    let same = refill-all c.in_ok-dealers.dealers.len items new e in
     let fault = c.in_err-judge.field-0.0 in
     handed_on c.from_residual-in_err-judge.result fault
     (IsSearchFault (IsNear c.args.moves.now.rows c.args.ring.now) c.args.limit
@@ -40,9 +37,7 @@ returns-clause-dealt g c =
     let e : c.in_ok-dealers.dealers.len ≡ length new = omega arith in
     let was : length c.as_mut_slice.result.now ≡ length items =
     ap (λ (list : List Dealer). length list) c.as_mut_slice.ensures.value in
-    let same : refill c.in_ok-dealers.dealers.len items new ≡ new =
-    ap (λ n. take n (new ++ drop (length new) items)) e
-    ∙ take-append_seam new (drop (length new) items) in
+    let same = refill-all c.in_ok-dealers.dealers.len items new e in
     subst (AreDealt (length c.args.owners.now) (seen_by c.args.owners.now)
     (IsNear c.args.moves.now.rows c.args.ring.now)) (sym same)
     (dealt-all c.args.room (seen_by c.args.owners.now) (length c.args.owners.now)

@@ -7,6 +7,7 @@ pub returns-in_default : goal.returns-in_default
 returns-in_default c e = (
   e,
   no-pile c.args.number (length c.as_slice.result.now) c.args.dealer.now c.args.owner.now.visited
-      c.args.owner.now.next.items (ap (λ (piles : List Ring). length piles) c.as_slice.ensures.value)
+      c.args.owner.now.next.items
+      (ap (λ (piles : List Ring). length piles) c.as_slice.ensures.value)
       c.in_default.ensures.lookup.0,
 )

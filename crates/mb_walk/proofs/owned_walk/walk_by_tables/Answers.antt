@@ -1,11 +1,11 @@
-use Rattle.std.proofs.Common.{Global, List, Ok, Vec, [], ap, arith, drop, length, length-append, rules, subst, sym, take, ℕ, ◌++◌, ◌+◌, ◌<◌, ◌∙◌, ◌∷◌, ◌≡◌, ◌≤◌}
-use Rattle.std.proofs.Math.Seq.{take-append_seam}
+use Rattle.std.proofs.Common.{Global, List, Ok, Vec, [], ap, arith, length, length-append, rules, subst, sym, ℕ, ◌++◌, ◌+◌, ◌<◌, ◌∙◌, ◌∷◌, ◌≡◌, ◌≤◌}
 use Rattle.std.proofs.lemmas.List.{map-append}
 use Rattle.std.proofs.lemmas.List.Sorted.{length_permutation}
 use Rattle.std.specs.List.{refill}
+use Rattle.mb_keyed.proofs.LentLists.{refill-all}
 use Rattle.mb_matrix.specs.Matrix.{fiber_of}
-use Rattle.mb_rings.proofs.FiberSteps.{fiber-only, fiber-walkable}
-use Rattle.mb_rings.proofs.Walking.{IsWalked, distance, distance-falls, no-length, ring-fiber, ring-known, some-length, under-limit, walked-end, walked-few, walked-over, walked-start, walked-step, walked-total}
+use Rattle.mb_rings.proofs.FiberSteps.{fiber-walkable}
+use Rattle.mb_rings.proofs.Walking.{IsWalked, distance, distance-falls, no-length, ring-known, some-length, under-limit, walked-end, walked-few, walked-over, walked-start, walked-step, walked-total}
 use Rattle.mb_rings.specs.loops.Found.{Finds, IsSearchFault}
 use Rattle.mb_rings.specs.loops.RingList.{listed}
 use Rattle.mb_rings.specs.Walk.{walk_cause, walk_of, within_limit}
@@ -13,8 +13,9 @@ use Rattle.mb_rings.specs.Walked.{Walked}
 use Rattle.mb_tables.specs.Lists.{In}
 use Rattle.mb_tables.specs.Step.{IsNear}
 use Rattle.mb_tables.proofs.HandedOn.{gives-handed_on}
+use Rattle.mb_walk.proofs.RingCells.{ring-cells}
 use Rattle.mb_walk.specs.declared.owner.Owner.{Owner}
-use Rattle.mb_walk.specs.loops.Piles.{AreParts, kept, seen_by}
+use Rattle.mb_walk.specs.loops.Piles.{AreOwned, kept, seen_by}
 use Rattle.mb_walk.proofs.owned_walk.walk_by_tables.Given as given
 use Rattle.mb_walk.proofs.owned_walk.walk_by_tables.Goals as goal
 
@@ -32,22 +33,17 @@ loop-alloc-init g c =
           c.in_ok-owners.ensures.seen c.requires.some),
       sym (length_permutation (c.args.start.now ∷ []) (seen_by owners) c.in_ok-owners.ensures.seen),
       c.in_ok-owners.ensures.count,
-      subst (λ n. AreParts n (kept owners)) (sym c.in_ok-owners.ensures.count)
+      subst (λ n. AreOwned n (kept owners)) (sym c.in_ok-owners.ensures.count)
           c.in_ok-owners.ensures.parts,
     )
 
 pub next_by_piles-requires-clause-widths : goal.next_by_piles-requires-clause-widths
 next_by_piles-requires-clause-widths g c κs within u i =
-    let matrix = c.args.matrix.now in
-    let start = c.args.start.now in
-    let walkable =
-    fiber-walkable matrix c.cols.ensures.sound start c.args.moves.now.rows c.requires.moves
-    c.requires.cells c.requires.margins in
-    let there =
-    ring-fiber (fiber_of matrix start) c.args.moves.now.rows start c.args.limit
+    ring-cells c.args.matrix.now c.cols.ensures.sound c.args.start.now c.args.moves.now.rows
+    c.requires.moves c.requires.cells c.requires.margins c.args.limit
     (listed c.loop-alloc.rings.items) c.loop-alloc.ring.items (seen_by c.loop-alloc.owners.items)
-    c.loop-alloc.invariant.0 walkable u (subst (In u) c.as_slice.ensures.value i) in
-    (fiber-only matrix c.cols.ensures.sound start u there).0 ∙ sym c.requires.width
+    c.loop-alloc.invariant.0 u (subst (In u) c.as_slice.ensures.value i)
+    ∙ sym c.requires.width
 
 pub next_by_piles-requires-clause-known : goal.next_by_piles-requires-clause-known
 next_by_piles-requires-clause-known g c κs within =
@@ -60,7 +56,7 @@ next_by_piles-requires-clause-known g c κs within =
 
 pub next_by_piles-requires-clause-parts : goal.next_by_piles-requires-clause-parts
 next_by_piles-requires-clause-parts g c κs within =
-    subst (λ (list : List Owner). AreParts (length list) (kept list))
+    subst (λ (list : List Owner). AreOwned (length list) (kept list))
     (sym c.as_mut_slice-list.ensures.value) c.loop-alloc.invariant.3
 
 pub returns-in_err-next-clause-rings : goal.returns-in_err-next-clause-rings
@@ -69,7 +65,8 @@ returns-in_err-next-clause-rings g c =
     let start = c.args.start.now in
     let moves = c.args.moves.now.rows in
     let fault = c.in_err-next.field-0.0 in
-    gives-handed_on walk_cause (λ (walked : Walked). walked.rings) c.from_residual-in_err-next.result fault
+    gives-handed_on walk_cause (λ (walked : Walked). walked.rings)
+    c.from_residual-in_err-next.result fault
     (walk_of c.args.limit matrix moves start) c.from_residual-in_err-next.ensures.1
     (walked-over (fiber_of matrix start) moves start c.args.limit
     (listed c.loop-alloc.rings.items) c.loop-alloc.ring.items (seen_by c.loop-alloc.owners.items)
@@ -125,8 +122,7 @@ same g c =
     let count = c.next_by_piles.ensures.count in
     let ok = c.loop-alloc.owners.ok.0 in
     let e : c.loop-alloc.owners.len ≡ length new = omega arith in
-    ap (λ n. take n (new ++ drop (length new) items)) e
-    ∙ take-append_seam new (drop (length new) items)
+    refill-all c.loop-alloc.owners.len items new e
 
 pub loop-alloc-smaller : goal.loop-alloc-smaller
 loop-alloc-smaller g c =
@@ -172,8 +168,8 @@ loop-alloc-preserved g c =
     ap (λ (list : List Owner). length list) c.as_mut_slice-list.ensures.value in
     let count : length new ≡ c.args.workers =
     c.next_by_piles.ensures.count ∙ was ∙ c.loop-alloc.invariant.2 in
-    let parts : AreParts (length new) (kept new) =
-    subst (λ n. AreParts n (kept new)) (sym c.next_by_piles.ensures.count)
+    let parts : AreOwned (length new) (kept new) =
+    subst (λ n. AreOwned n (kept new)) (sym c.next_by_piles.ensures.count)
     c.in_ok-next.ensures.parts in
     let seen : c.loop-alloc.seen + c.len-in-loop-alloc.result ≡ length (seen_by new) =
     (let e = grown g c in
@@ -185,7 +181,7 @@ loop-alloc-preserved g c =
     (listed c.push-in-loop-alloc.new.self.items) c.in_ok-next.next.items (seen_by list)
     × (c.loop-alloc.seen + c.len-in-loop-alloc.result ≡ length (seen_by list))
     × (length list ≡ c.args.workers)
-    × AreParts (length list) (kept list))
+    × AreOwned (length list) (kept list))
     (sym (same g c)) (walked g c, seen, count, parts)
 
 pub from_lists-requires : goal.from_lists-requires

@@ -2,7 +2,7 @@ use Rattle.std.proofs.Common.{length, ◌≡◌}
 use Rattle.mb_matrix.specs.Matrix.{fiber_of}
 use Rattle.mb_rings.proofs.Walking.{IsWalked, distance}
 use Rattle.mb_rings.specs.loops.RingList.{listed}
-use Rattle.mb_walk.specs.loops.Piles.{AreParts, kept, seen_by}
+use Rattle.mb_walk.specs.loops.Piles.{AreOwned, kept, seen_by}
 use Rattle.mb_walk.proofs.owned_walk.walk_by_tables.Given as goal
 
 abbrev pub invariant-loop-alloc : goal.invariant-loop-alloc
@@ -11,7 +11,7 @@ invariant-loop-alloc g l =
     l.ring.items (seen_by l.owners.items)
     × (l.seen ≡ length (seen_by l.owners.items))
     × (length l.owners.items ≡ l.fn.workers)
-    × AreParts (length l.owners.items) (kept l.owners.items)
+    × AreOwned (length l.owners.items) (kept l.owners.items)
 
 abbrev pub decreases-loop-alloc : goal.decreases-loop-alloc
 decreases-loop-alloc g l = distance l.limit (seen_by l.owners.items) l.ring.items

@@ -3,7 +3,7 @@ use Rattle.mb_rings.specs.Ring.{tables_of}
 use Rattle.mb_rings.specs.loops.Found.{Finds, FindsMore}
 use Rattle.mb_walk.proofs.TakenOver.{kept-parts, taken-over}
 use Rattle.mb_walk.specs.declared.owner.Owner.{Owner}
-use Rattle.mb_walk.specs.loops.Piles.{AreParts, IsDealt, IsDealtBy, joined, seen_by}
+use Rattle.mb_walk.specs.loops.Piles.{AreOwned, IsDealt, IsDealtBy, joined, seen_by}
 use Rattle.mb_walk.proofs.piles.take_over.Given as given
 use Rattle.mb_walk.proofs.piles.take_over.Goals as goal
 
@@ -17,7 +17,7 @@ each g c i d l =
 
 pub returns-clause-parts : goal.returns-clause-parts
 returns-clause-parts g c =
-    subst (AreParts (length c.args.owners.now)) (sym c.join.ensures.kept)
+    subst (AreOwned (length c.args.owners.now)) (sym c.join.ensures.kept)
     (kept-parts (length c.args.owners.now) c.args.dealers.now c.args.owners.now
     c.merge_all.new.owners (omega arith) refl c.merge_all.ensures.count c.requires.piles
     c.requires.parts (each g c))

@@ -13,7 +13,8 @@ found_by-found-requires-clause-listed g c κs within =
 
 pub found_by-found-requires-clause-tables : goal.found_by-found-requires-clause-tables
 found_by-found-requires-clause-tables g c κs within =
-    let long : length c.in_ok-observed.observed ≡ c.cols-cells.result = grind (arith, common_steps) in
+    let long : length c.in_ok-observed.observed ≡ c.cols-cells.result =
+    grind (arith, common_steps) in
     subst (λ n. All (λ table. length table ≡ n) (tables_in c.as_slice-rings.result.now))
     c.cols-cells.ensures.cells
     (all-long c.cols-cells.result (tables_in c.as_slice-rings.result.now) c.in_ok-near.near.items

@@ -16,7 +16,8 @@ pub returns-in_err-chosen : goal.returns-in_err-chosen
 returns-in_err-chosen c =
     let above = one-le-pow c.args.count c.args.base c.requires.base in
     let some = ways_above c.args.rest c.args.count in
-    let part = part_within (ways c.args.rest c.args.count) (c.args.base ^ c.args.count) some above in
+    let part =
+    part_within (ways c.args.rest c.args.count) (c.args.base ^ c.args.count) some above in
     let whole =
     part_within c.args.product (factor c.args.rest c.args.base c.args.count) c.requires.some
     (factor_above c.args.rest c.args.base c.args.count c.requires.base) in
@@ -34,7 +35,8 @@ pub returns-in_err-power : goal.returns-in_err-power
 returns-in_err-power c =
     let above = one-le-pow c.args.count c.args.base c.requires.base in
     let some = ways_above c.args.rest c.args.count in
-    let part = part_within (ways c.args.rest c.args.count) (c.args.base ^ c.args.count) some above in
+    let part =
+    part_within (ways c.args.rest c.args.count) (c.args.base ^ c.args.count) some above in
     let whole =
     part_within c.args.product (factor c.args.rest c.args.base c.args.count) c.requires.some
     (factor_above c.args.rest c.args.base c.args.count c.requires.base) in

@@ -1,7 +1,8 @@
 use Rattle.std.proofs.Common.{ap, arith, length, sym, ◌+◌, ◌∙◌}
-use Rattle.mb_certificate.proofs.PieceCases.{counted_on, first_line_is, some_byte, some_piece}
-use Rattle.mb_certificate.specs.Reading.{next_line}
 use Rattle.std.proofs.Common.{Ok}
+use Rattle.mb_certificate.proofs.PieceCases.{counted_on, first_line_is, some_byte}
+use Rattle.mb_certificate.specs.Reading.{next_line}
+use Rattle.mb_text.proofs.PieceCases.{some_piece}
 use Rattle.mb_text.specs.Lines.{lines}
 use Rattle.mb_certificate.proofs.lines.Lines.next.Goals as goal
 
@@ -30,4 +31,11 @@ returns-in-Some c =
     (some_byte (length c.in-Some.line.now) c.is_empty.result c.is_empty.ensures
     c.if-not-is_empty.true)
     (some_piece 10 c.in-Some.rest.now)
-    ∙ ap (λ items. Ok (items, record { number = c.self.inside.number + 1; pieces = lines c.in-Some.rest.now })) (sym c.of-items.ensures)
+    ∙ ap (λ items. Ok (
+      items,
+      record {
+        number = c.self.inside.number + 1;
+        pieces =
+            lines c.in-Some.rest.now;
+      },
+    )) (sym c.of-items.ensures)

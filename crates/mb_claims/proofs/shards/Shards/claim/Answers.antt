@@ -53,7 +53,8 @@ returns-clause-answer c =
     answers_full c.args.self.now.sizes c.args.key c.home-home.result.shard c.args.pass.now.knows
     c.loop.pass.knows home.shard
     (subst (λ (n : ℕ).
-    IsUnderWay c.args.self.now.sizes c.args.key c.args.pass.now.knows c.loop.pass.knows n) whole way)
+    IsUnderWay c.args.self.now.sizes c.args.key c.args.pass.now.knows c.loop.pass.knows n)
+    whole way)
 
 pub try_place-found-requires-clause-next : goal.try_place-found-requires-clause-next
 try_place-found-requires-clause-next c =

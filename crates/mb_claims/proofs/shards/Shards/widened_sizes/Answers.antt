@@ -10,5 +10,6 @@ returns-clause-fit c =
     let ends : length old ≤ c.loop-size.size-index = search rules in
     let fit : AreSizes old = search rules in
     subst (λ (l : List ℕ). AreSizes l)
-    (sym (c.loop-size.invariant ∙ ap (map (max c.args.words)) (take_all c.loop-size.size-index old ends)))
+    (sym (c.loop-size.invariant
+    ∙ ap (map (max c.args.words)) (take_all c.loop-size.size-index old ends)))
     (widened_fit c.args.words old c.requires fit)

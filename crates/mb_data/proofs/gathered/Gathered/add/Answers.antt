@@ -18,10 +18,12 @@ returns-then-not-branch-clause-added c = λ rows so_far.
     let said = c.in_ok-entry.ensures.row in
     let row : Row = record { levels = levels; entry = said.0 } in
     let key : c.in_ok-key.key.items ≡ key_of levels = search rules in
-    let texts = levels_are_texts c.args.records.now.fields c.args.header.now.place c.in_ok-entry.ensures.text in
+    let texts = levels_are_texts c.args.records.now.fields c.args.header.now.place
+    c.in_ok-entry.ensures.text in
     let some : IsSome (entry_at c.args.self.now.rows c.in_ok-key.key.items) = search rules in
     step_is c.args.header.now c.args.number rows c.args.records.now.fields row said.1
-    ∙ repeat_refused c.args.number rows row (entry_at c.args.self.now.rows c.in_ok-key.key.items) some
+    ∙ repeat_refused c.args.number rows row
+    (entry_at c.args.self.now.rows c.in_ok-key.key.items) some
     (ap (entry_at c.args.self.now.rows) key ∙ so_far.entries levels texts)
 
 pub returns-in-None-clause-added : goal.returns-in-None-clause-added
@@ -30,7 +32,8 @@ returns-in-None-clause-added c = λ rows so_far.
     let said = c.in_ok-entry.ensures.row in
     let row : Row = record { levels = levels; entry = said.0 } in
     let key : c.in_ok-key.key.items ≡ key_of levels = search rules in
-    let texts = levels_are_texts c.args.records.now.fields c.args.header.now.place c.in_ok-entry.ensures.text in
+    let texts = levels_are_texts c.args.records.now.fields c.args.header.now.place
+    c.in_ok-entry.ensures.text in
     let none : entry_at c.args.self.now.rows c.in_ok-key.key.items ≡ None = search rules in
     step_is c.args.header.now c.args.number rows c.args.records.now.fields row said.1
     ∙ total_refused c.args.number c.args.self.now.total rows row c.in_ok-entry.entry
@@ -43,17 +46,20 @@ returns-clause-added c = λ rows so_far.
     let said = c.in_ok-entry.ensures.row in
     let row : Row = record { levels = levels; entry = said.0 } in
     let key : c.in_ok-key.key.items ≡ key_of levels = search rules in
-    let texts = levels_are_texts c.args.records.now.fields c.args.header.now.place c.in_ok-entry.ensures.text in
+    let texts = levels_are_texts c.args.records.now.fields c.args.header.now.place
+    c.in_ok-entry.ensures.text in
     let none : entry_at c.args.self.now.rows c.in_ok-key.key.items ≡ None = search rules in
     let new : entry_by_rows rows levels ≡ None =
     sym (so_far.entries levels texts) ∙ sym (ap (entry_at c.args.self.now.rows) key) ∙ none in
-    let added = row_added c.args.number c.args.self.now.total c.in-Some.total rows row c.in_ok-entry.entry
+    let added = row_added c.args.number c.args.self.now.total c.in-Some.total rows row
+    c.in_ok-entry.entry
     new so_far.total_is said.2 (sym c.in-Some.is ∙ c.total_with.ensures) in
     let put : (others : List ℕ) → entry_at c.put.new.self others
     ≡ update bytes_eq (entry_at c.args.self.now.rows) c.in_ok-key.key.items
     (Some c.in_ok-entry.entry) others =
     (rw c.if-not-branch.false at c.in_ok-put.ensures).1 in
-    let names : c.add_levels.new.levels ≡ with_levels c.args.self.now.levels.items levels = search rules in
+    let names : c.add_levels.new.levels ≡ with_levels c.args.self.now.levels.items
+    levels = search rules in
     let after : (others : List ℕ) → entry_at c.put.new.self others
     ≡ update bytes_eq (entry_at c.args.self.now.rows) (key_of levels) (Some row.entry) others =
     λ others.

@@ -33,7 +33,8 @@ returns-clause-told c =
       sym (names-none c.args.kind names)
           ∙ ap (λ ks. names ++ all ks) (sym c.in-None.ensures.steps.0)
           ∙ c.loop-key.invariant
-          ∙ ap all (c.into_iter-key-iterator.ensures.into_iter_gives ∙ c.keys-key-items.ensures.rest)
+          ∙ ap all (c.into_iter-key-iterator.ensures.into_iter_gives
+          ∙ c.keys-key-items.ensures.rest)
           ∙ sym (names-tree_rows c.args.kind c.self.inside.bodies c.keys-key-items.ensures.ordered)
           ∙ ap (names_of c.args.kind) c.self.view_is,
     )

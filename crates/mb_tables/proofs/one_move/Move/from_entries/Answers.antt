@@ -1,7 +1,7 @@
 use Rattle.std.proofs.Common.{ap, arith, length, length-append, subst, sym, ◌++◌, ◌∙◌, ◌≡◌}
 use Rattle.mb_tables.proofs.KeptParts.{are_parts, length-picked}
 use Rattle.mb_tables.proofs.PickedParts.{parts_of, picked-entries}
-use Rattle.mb_tables.specs.loops.Parts.{AreParts, entries_of, is_high, is_low, picked}
+use Rattle.mb_tables.specs.loops.Parts.{AreMoveParts, entries_of, is_high, is_low, picked}
 use Rattle.mb_tables.proofs.one_move.Move.from_entries.Goals as goal
 
 -- the parts below 0
@@ -28,7 +28,7 @@ parts c =
 pub invariant_of-result : goal.invariant_of-result
 invariant_of-result c =
     let entries = c.args.entries.now in
-    subst (AreParts (length entries) c.len-lows.result) (sym (parts c))
+    subst (AreMoveParts (length entries) c.len-lows.result) (sym (parts c))
     (are_parts entries c.len-lows.result c.requires
     (let e = ap length (parts c) in
     let f = ap length c.in_ok-push_highs.ensures in

@@ -1,8 +1,0 @@
-use Rattle.mb_certificate.proofs.WrittenParts.{row_written}
-use Rattle.mb_desk.proofs.commands.export.push_rows.Goals as goal
-
-pub loop-row-preserved : goal.loop-row-preserved
-loop-row-preserved c =
-    row_written c.args.matrix.now c.args.out.now.items c.loop-row.out.items
-    c.push_line.new.out.items c.row.result.now c.loop-row.row c.in_ok-push_line.ensures
-    c.loop-row.invariant c.row.ensures.entries
